@@ -1,0 +1,7 @@
+pub mod Fits
+pub mod Maps
+pub mod Decides
+pub mod Views
+pub mod Laws
+pub mod Starts
+pub mod Stepped

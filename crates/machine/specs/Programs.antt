@@ -1,0 +1,24 @@
+-- What a program holds.
+use mathlib.Core.List.{List, [], _∷_, map}
+use Prim.Native.Nat.{ℕ}
+use lib.ListN.{getD}
+use Rattle.std.specs.Of.Vec.{vec-items}
+use Rattle.machine.specs.declared.program.Instruction.{Instruction}
+use Rattle.machine.specs.declared.program.Program.{Program}
+use Rattle.machine.specs.Form.{Parts}
+
+-- the instructions of each thread
+abbrev pub texts : Program → List (List Instruction)
+texts p = map vec-items (vec-items (p .texts))
+
+-- the instructions of thread t; the first thread is thread 1
+abbrev pub text-of : Program → ℕ → List Instruction
+text-of p t = getD ([] ∷ texts p) t []
+
+-- what the program says
+abbrev pub parts : Program → Parts
+parts p = record { starts = p .starts; limits = p .limits; texts = texts p }
+
+-- what was read, and how many bytes it took
+abbrev pub read-parts : Program × ℕ → Parts × ℕ
+read-parts x = (parts (x .0), x .1)
