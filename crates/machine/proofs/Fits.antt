@@ -19,12 +19,7 @@ use Rattle.machine.specs.declared.program.Program.{Program}
 use Rattle.machine.specs.Form.{each, text-fits, fits, Usable}
 use Rattle.machine.specs.Programs.{texts, text-of}
 use Rattle.machine.specs.View.{fetched}
-
--- one of those that all pass, or past them what passes there
-pub each-at : {A : Type 0} (f : A → Bool) (xs : List A) (d : A) (k : ℕ) → each f xs ≡ true → (length xs ≤ k → f d ≡ true) → f (getD xs k d) ≡ true
-each-at f [] d k h e = e (omega arith)
-each-at f (x ∷ xs) d zero h e = and-parts _ _ h .0
-each-at f (x ∷ xs) d (suc k) h e = each-at f xs d k (and-parts _ _ h .1) (λ ge. e (omega arith))
+use Rattle.machine.proofs.Each.{each-at}
 
 -- a program has as many threads as texts
 pub rows : (p : Program) → vec-len (p .texts) ≡ length (texts p)
@@ -58,8 +53,7 @@ usable n i h = record {
 pub fetched-at : (p : Program) (t place : ℕ) (is : List Instruction) (d : Instruction) → is ≡ text-of p t → place < length is → (Some (getD is place d) ≡ fetched p t place) × ((place < 128) × Usable (getD is place d))
 fetched-at p t place is d e lt =
     let n = length is in
-    let f = and-parts (leb n 128) (each (fits n) is) (subst (λ l. text-fits l ≡ true) (sym e) (each-at text-fits ([] ∷ texts p) [] t (p .fit) (λ _. refl))) in
-    (
+    let f = and-parts (leb n 128) (each (fits n) is) (subst (λ l. text-fits l ≡ true) (sym e) (each-at text-fits ([] ∷ texts p) [] t (p .fit) (λ _. refl))) in (
       sym (nth-getD is place d lt) ∙ ap (λ l. nth l place) e,
       (omega (arith, leb-true n 128 (f .0)), usable n (getD is place d) (each-at (fits n) is d place (f .1) (λ ge. absurd (omega arith)))),
     )

@@ -37,6 +37,10 @@ impl Program {
     {
         let text = self.text(thread);
         let at = place as usize;
-        if at < text.len() { Some(text[at]) } else { None }
+        if at < text.len() {
+            Some(text[at])
+        } else {
+            None
+        }
     }
 }

@@ -3,6 +3,7 @@ pub mod code;
 pub mod fault;
 pub mod machine;
 pub mod program;
+pub mod read;
 pub mod room;
 pub mod show;
 pub mod step;

@@ -48,10 +48,23 @@ impl Machine {
         ensures value { λ r. ⌜ view r ≡ start (code-of (now (program .entry))) ⌝ }
         ensures laws { λ _. ⌜ Run-laws (code-of (now (program .entry))) ⌝ }
     {
-        let ready = Thread { registers: [0; 4], place: 0, count: 0 };
-        let unused = Item { value: 0, version: 0, made: 0 };
+        let ready = Thread {
+            registers: [0; 4],
+            place: 0,
+            count: 0,
+        };
+        let unused = Item {
+            value: 0,
+            version: 0,
+            made: 0,
+        };
         let semaphores = program.starts;
-        Machine { threads: [ready; 8], variables: [unused; 16], semaphores, holders: [0; 8] }
+        Machine {
+            threads: [ready; 8],
+            variables: [unused; 16],
+            semaphores,
+            holders: [0; 8],
+        }
     }
     // The thread, from 1 to 8.
     pub fn thread(&self, thread: u8) -> Option<Thread>

@@ -93,12 +93,20 @@ impl Machine {
             6 => {
                 let x = self.variables[b];
                 s.registers[a] = x.value;
-                self.variables[b] = Item { value: x.value, version: x.version, made: x.made + 1 };
+                self.variables[b] = Item {
+                    value: x.value,
+                    version: x.version,
+                    made: x.made + 1,
+                };
             }
             7 if self.variables[b].version >= TOP => return false,
             7 => {
                 let x = self.variables[b];
-                self.variables[b] = Item { value: s.registers[a], version: x.version + 1, made: 0 };
+                self.variables[b] = Item {
+                    value: s.registers[a],
+                    version: x.version + 1,
+                    made: 0,
+                };
             }
             8 if self.semaphores[b] == 0 => return false,
             8 => self.semaphores[b] -= 1,

@@ -7,6 +7,6 @@ use Rattle.machine.proofs.machine.Machine.current.Needs.{then-thread-lt1·by·
 pub returns-then-thread-lt1 : need.returns-then-thread-lt1
 returns-then-thread-lt1 c =
     elim (c .then-thread-lt1 .came) [
-      then-thread-lt1·by·then-thread-lt1 w ↦ search needs
-    | then-thread-lt1·by·else-thread-lt1·then-thread-gt8 w ↦ record { value = fetched-none (c .args .program .now) (c .args .thread) _ (w .if-thread-gt8 .taken); usable = tt }
+      | then-thread-lt1·by·then-thread-lt1 w ↦ search needs
+      | then-thread-lt1·by·else-thread-lt1·then-thread-gt8 w ↦ record { value = fetched-none (c .args .program .now) (c .args .thread) _ (w .if-thread-gt8 .taken); usable = tt }
     ]
