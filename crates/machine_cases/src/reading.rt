@@ -98,8 +98,6 @@ fn each_field_cut_short(rt: LibcRuntime) -> Result<(), Fail> {
 
 #[test]
 fn numbers_of_threads(rt: LibcRuntime) -> Result<(), Fail> {
-    let mut bytes = [0; 26];
-    bytes[0..18].copy_from_slice(&EMPTY);
     for (threads, outcome) in [
         (0, Refused(0)),
         (1, Taken(18)),
@@ -108,20 +106,21 @@ fn numbers_of_threads(rt: LibcRuntime) -> Result<(), Fail> {
         (9, Refused(0)),
         (255, Refused(0)),
     ] {
-        bytes[0] = threads;
-        check_eq(read(&rt, &bytes)?, outcome)?;
+        check_eq(read(&rt, &idle(threads))?, outcome)?;
     }
     Ok(())
 }
 
-// As many instructions as n says, each `set r0 to 0`.
+// Threads with no instruction.
+fn idle(threads: u8) -> [u8; 26] {
+    let mut bytes = [0; 26];
+    bytes[0..18].copy_from_slice(&EMPTY);
+    bytes[0] = threads;
+    bytes
+}
+
 #[test]
 fn numbers_of_instructions(rt: LibcRuntime) -> Result<(), Fail> {
-    let mut bytes = [0; 540];
-    bytes[0..18].copy_from_slice(&EMPTY);
-    for i in 0..129usize {
-        bytes[18 + 4 * i] = 1;
-    }
     for (n, outcome) in [
         (0, Taken(18)),
         (1, Taken(22)),
@@ -130,10 +129,20 @@ fn numbers_of_instructions(rt: LibcRuntime) -> Result<(), Fail> {
         (129, Refused(17)),
         (255, Refused(17)),
     ] {
-        bytes[17] = n;
-        check_eq(read(&rt, &bytes)?, outcome)?;
+        check_eq(read(&rt, &long(n))?, outcome)?;
     }
     Ok(())
+}
+
+// One thread that says it has n instructions, with bytes for more: each is `set r0 to 0`.
+fn long(n: u8) -> [u8; 540] {
+    let mut bytes = [0; 540];
+    bytes[0..18].copy_from_slice(&EMPTY);
+    bytes[17] = n;
+    for i in 0..130usize {
+        bytes[18 + 4 * i] = 1;
+    }
+    bytes
 }
 
 // A start and a limit, for the first and for the last semaphore.

@@ -81,10 +81,10 @@ fn tour(rt: &LibcRuntime) -> Result<(), AnyError> {
 // What was read.
 fn list(rt: &LibcRuntime, program: &Program, taken: usize) -> Result<(), AnyError> {
     let threads = program.threads();
-    println!(rt, "  It took {taken} bytes and has {threads} threads.")?;
+    println!(rt, "  Bytes taken: {taken}. Threads: {threads}.")?;
     for thread in 1..=threads {
         let text = program.text(thread);
-        println!(rt, "  Thread {thread} has {} instructions:", text.len())?;
+        println!(rt, "  Instructions of thread {thread}: {}", text.len())?;
         for (place, instruction) in text.iter().enumerate() {
             println!(rt, "    {place}: {instruction}")?;
         }
@@ -94,7 +94,7 @@ fn list(rt: &LibcRuntime, program: &Program, taken: usize) -> Result<(), AnyErro
 
 // Steps the threads in order, and shows what each step changed.
 fn run(rt: &LibcRuntime, program: &Program) -> Result<(), AnyError> {
-    println!(rt, "It is run: threads {ORDER:?}.")?;
+    println!(rt, "It is run, the threads stepping in the order {ORDER:?}.")?;
     let mut machine = Machine::start(program);
     for thread in ORDER {
         match machine.current(program, thread) {
