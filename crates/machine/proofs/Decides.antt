@@ -6,7 +6,7 @@ use Prim.Native.Nat.{ℕ, _<_}
 use native.Mathlib.Omega.{arith}
 use lib.Dec.{eqb, ltb}
 use Rattle.std.proofs.shelf.Tests.{ltb-true, ltb-false, eqb-true, eqb-false}
-use Rattle.machine.specs.declared.machine.Operation.the-variants.{P, V, Lock, Unlock}
+use Rattle.machine.specs.declared.Operation.the-variants.{P, V, Lock, Unlock}
 use Rattle.machine.specs.Says.{Says}
 use Rattle.machine.specs.Machine.{Instr, Code, State, object, here, Free, free, Able, able, able-at}
 
@@ -31,22 +31,22 @@ says-eq a b = go (eqb a b) refl
     go true e = eqb-true a b e
     go false e = eqb-false a b e
 
-pub says-free : (p : Code) (i : ℕ) (c : Instr) (x : ℕ) → Says (free p i c x) (Free p i c x)
-says-free p i (Instr.local c) x = tt
-says-free p i (Instr.read a v) x = tt
-says-free p i (Instr.write a v) x = tt
-says-free p i (Instr.synchronise P n) x = says-lt 0 x
-says-free p i (Instr.synchronise V n) x = says-lt x (p .limits n)
-says-free p i (Instr.synchronise Lock n) x = says-eq x 0
-says-free p i (Instr.synchronise Unlock n) x = says-eq x i
+pub says-free : (limits : ℕ → ℕ) (i : ℕ) (c : Instr) (x : ℕ) → Says (free limits i c x) (Free limits i c x)
+says-free limits i (Instr.local c) x = tt
+says-free limits i (Instr.read a v) x = tt
+says-free limits i (Instr.write a v) x = tt
+says-free limits i (Instr.synchronise P n) x = says-lt 0 x
+says-free limits i (Instr.synchronise V n) x = says-lt x (limits n)
+says-free limits i (Instr.synchronise Lock n) x = says-eq x 0
+says-free limits i (Instr.synchronise Unlock n) x = says-eq x i
 
 pub says-able : (p : Code) (m : State) (i : ℕ) → Says (able p m i) (Able p m i)
 says-able p m i = go (here p m i) refl
   where
-    at : (c : Instr) → here p m i ≡ some c → (r : Bool) → Says r (Free p i c (m .item (object c) .value)) → Says r (Able p m i)
+    at : (c : Instr) → here p m i ≡ some c → (r : Bool) → Says r (Free (p .limits) i c (m .item (object c) .value)) → Says r (Able p m i)
     at c e true s = record { c = c; is = e; free = s }
-    at c e false s = λ a. let same : a .c ≡ c = cc (sym (a .is) ∙ e) in s (subst (λ (d : Instr). Free p i d (m .item (object d) .value)) same (a .free))
+    at c e false s = λ a. let same : a .c ≡ c = cc (sym (a .is) ∙ e) in s (subst (λ (d : Instr). Free (p .limits) i d (m .item (object d) .value)) same (a .free))
 
     go : (o : Option Instr) → here p m i ≡ o → Says (able-at p m i o) (Able p m i)
     go none e = λ a. let z : _≡_ {A = ℕ} 0 1 = cc (sym e ∙ a .is) in omega arith
-    go (some c) e = at c e (free p i c (m .item (object c) .value)) (says-free p i c (m .item (object c) .value))
+    go (some c) e = at c e (free (p .limits) i c (m .item (object c) .value)) (says-free (p .limits) i c (m .item (object c) .value))

@@ -9,9 +9,9 @@ use native.Mathlib.Omega.{arith}
 use lib.Dec.{eqb}
 use Rattle.std.proofs.shelf.Tests.{eqb-true, eqb-false, eq-eqb, ne-eqb}
 use Rattle.std.proofs.shelf.Ways.{tells}
-use Rattle.machine.specs.declared.machine.Operation.the-variants.{P, V, Lock, Unlock}
-use Rattle.machine.specs.declared.machine.Thread.{Thread}
-use Rattle.machine.specs.declared.machine.Item.{Item}
+use Rattle.machine.specs.declared.Operation.the-variants.{P, V, Lock, Unlock}
+use Rattle.machine.specs.declared.Thread.{Thread}
+use Rattle.machine.specs.declared.Item.{Item}
 use Rattle.machine.specs.Map.{put, same-number}
 use Rattle.machine.specs.Words.{times}
 use Rattle.machine.specs.Machine.{Local, Instr, Object, same-object, object, State, Code, start, next, goto, here, perform, step, step-at, Free, Able, Run, after}
@@ -50,7 +50,7 @@ module _ (p : Code) (m : State) (i : ℕ) where
   branch a k false e = goes-on (eqb-false (register p m i a) 0 e) (rw e (becomes m i (registers p m i) (onward p m i) Object.nothing (m .item Object.nothing)))
 
   -- an instruction whose object is free is made as the step computes it
-  pub makes : (c : Instr) → Free p i c (m .item (object c) .value) → Makes p m i c (perform i c m)
+  pub makes : (c : Instr) → Free (p .limits) i c (m .item (object c) .value) → Makes p m i c (perform i c m)
   unfolding became
   makes (Instr.local (Local.load a k)) f = loads (becomes m i _ _ _ _)
   makes (Instr.local (Local.add a b)) f = adds (becomes m i _ _ _ _)
@@ -65,7 +65,7 @@ module _ (p : Code) (m : State) (i : ℕ) where
   makes (Instr.synchronise Unlock n) f = unlocks f (becomes m i _ _ _ _)
 
   -- and in no other way
-  pub unique : {c : Instr} {n : State} → Makes p m i c n → Free p i c (m .item (object c) .value) × (n ≡ perform i c m)
+  pub unique : {c : Instr} {n : State} → Makes p m i c n → Free (p .limits) i c (m .item (object c) .value) × (n ≡ perform i c m)
   unfolding became
   unique (loads {n = n} b) = (tt, one-state m i _ _ _ _ n b)
   unique (adds {n = n} b) = (tt, one-state m i _ _ _ _ n b)

@@ -1,11 +1,3 @@
-pub mod Each
-pub mod Fits
-pub mod Spans
-pub mod Chains
-pub mod Encodes
-pub mod Decodes
-pub mod Exact
-pub mod Turns
 pub mod Maps
 pub mod Decides
 pub mod Views

@@ -7,9 +7,9 @@ use native.Mathlib.Omega.{arith}
 use lib.Dec.{ltb, leb}
 use lib.ListN.{getD, replicate}
 use Rattle.std.proofs.shelf.Ways.{tells}
-use Rattle.machine.specs.declared.machine.Thread.{Thread}
-use Rattle.machine.specs.declared.machine.Machine.{Machine}
-use Rattle.machine.specs.declared.program.Program.{Program}
+use Rattle.machine.specs.declared.Thread.{Thread}
+use Rattle.machine.specs.declared.Machine.{Machine}
+use Rattle.program.specs.declared.Program.{Program}
 use Rattle.machine.specs.Machine.{Object, nothing, variable, semaphore, mutex, plain, idle, ready, begin, start}
 use Rattle.machine.specs.View.{item-of, view, code-of}
 
@@ -28,20 +28,20 @@ threads : (r : Thread) (i : ℕ) → getD (idle ∷ replicate 8 r) i idle ≡ co
 threads r zero = refl
 threads r (suc i) = let f = filled 8 i r idle in grind (arith, tells)
 
-module _ (p : Program) where
+module _ (p : Program) (values : List ℕ) (same : values ≡ p .starts) where
   -- the arrays of a new machine
   abbrev pub fresh : Machine
   fresh = record {
     threads = replicate 8 (record { registers = replicate 4 0; place = 0; count = 0 });
     variables = replicate 16 (plain 0);
-    semaphores = p .starts;
+    semaphores = values;
     holders = replicate 8 0;
   }
 
   items : (o : Object) → item-of fresh o ≡ begin (code-of p) o
   items nothing = refl
   items (variable n) = same-filled 16 n (plain 0)
-  items (semaphore n) = refl
+  items (semaphore n) = ap (λ l. plain (getD l n 0)) same
   items (mutex n) = ap plain (same-filled 8 n 0)
 
   pub starts : view fresh ≡ start (code-of p)

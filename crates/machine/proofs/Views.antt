@@ -10,12 +10,12 @@ use lib.ListN.{length, getD, set}
 use lib.Seq.{getD-set-same, getD-set-other}
 use Rattle.std.proofs.shelf.Tests.{cond-both, eqb-true}
 use Rattle.std.proofs.shelf.Ways.{tells}
-use Rattle.machine.specs.declared.machine.Operation.the-variants.{P, V, Lock, Unlock}
-use Rattle.machine.specs.declared.machine.Thread.{Thread}
-use Rattle.machine.specs.declared.machine.Item.{Item}
-use Rattle.machine.specs.declared.machine.Machine.{Machine}
-use Rattle.machine.specs.declared.program.Instruction.{Instruction}
-use Rattle.machine.specs.Form.{Usable}
+use Rattle.machine.specs.declared.Operation.the-variants.{P, V, Lock, Unlock}
+use Rattle.machine.specs.declared.Thread.{Thread}
+use Rattle.machine.specs.declared.Item.{Item}
+use Rattle.machine.specs.declared.Machine.{Machine}
+use Rattle.program.specs.declared.Instruction.{Instruction}
+use Rattle.program.specs.Form.{Usable}
 use Rattle.machine.specs.Map.{put, same-number}
 use Rattle.machine.specs.Machine.{Instr, Object, nothing, variable, semaphore, mutex, same-object, object, next, touch, plain, idle, perform}
 use Rattle.machine.specs.View.{item-of, view, meaning, change, performed, Sized}

@@ -1,12 +1,6 @@
-pub mod Form
-pub mod Refusals
-pub mod Rooms
-pub mod Reading
-pub mod Encoding
-pub mod Programs
 pub mod Map
 pub mod Words
 pub mod Machine
-pub mod View
-pub mod Says
 pub mod Rules
+pub mod Says
+pub mod View

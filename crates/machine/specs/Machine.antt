@@ -6,10 +6,10 @@ use mathlib.Core.Bool.{Bool, true, false, cond, _&&_}
 use Prim.Native.Nat.{ℕ, suc, _+_, _-_, _%_, _^_, _<_}
 use lib.Dec.{eqb, ltb, leb}
 use lib.ListN.{getD, set}
-use Rattle.machine.specs.declared.machine.Operation.{Operation}
-use Rattle.machine.specs.declared.machine.Operation.the-variants.{P, V, Lock, Unlock}
-use Rattle.machine.specs.declared.machine.Thread.{Thread}
-use Rattle.machine.specs.declared.machine.Item.{Item}
+use Rattle.machine.specs.declared.Operation.{Operation}
+use Rattle.machine.specs.declared.Operation.the-variants.{P, V, Lock, Unlock}
+use Rattle.machine.specs.declared.Thread.{Thread}
+use Rattle.machine.specs.declared.Item.{Item}
 use Rattle.machine.specs.Map.{pick, put, same-number}
 use Rattle.machine.specs.Words.{Word, reach}
 
@@ -141,35 +141,35 @@ step-at (some c) i m = perform i c m
 abbrev pub step : Code → ℕ → State → State
 step p i m = step-at (here p m i) i m
 
--- what thread i's instruction needs of the value of its object
-abbrev pub Free : Code → ℕ → Instr → ℕ → Type 0
-Free p i (local c) x = Unit {0}
-Free p i (read a v) x = Unit {0}
-Free p i (write a v) x = Unit {0}
-Free p i (synchronise P n) x = 0 < x
-Free p i (synchronise V n) x = x < p .limits n
-Free p i (synchronise Lock n) x = x ≡ 0
-Free p i (synchronise Unlock n) x = x ≡ i
+-- what thread i's instruction needs of the value of its object, where the semaphores have these limits
+abbrev pub Free : (ℕ → ℕ) → ℕ → Instr → ℕ → Type 0
+Free limits i (local c) x = Unit {0}
+Free limits i (read a v) x = Unit {0}
+Free limits i (write a v) x = Unit {0}
+Free limits i (synchronise P n) x = 0 < x
+Free limits i (synchronise V n) x = x < limits n
+Free limits i (synchronise Lock n) x = x ≡ 0
+Free limits i (synchronise Unlock n) x = x ≡ i
 
 -- thread i is able: it stands at an instruction, and its object is free for it
 pub record Able (p : Code) (m : State) (i : ℕ) : Type 0 where
   pub c : Instr
   pub is : here p m i ≡ some c
-  pub free : Free p i c (m .item (object c) .value)
+  pub free : Free (p .limits) i c (m .item (object c) .value)
 
 -- the same as a test
-abbrev pub free : Code → ℕ → Instr → ℕ → Bool
-free p i (local c) x = true
-free p i (read a v) x = true
-free p i (write a v) x = true
-free p i (synchronise P n) x = ltb 0 x
-free p i (synchronise V n) x = ltb x (p .limits n)
-free p i (synchronise Lock n) x = eqb x 0
-free p i (synchronise Unlock n) x = eqb x i
+abbrev pub free : (ℕ → ℕ) → ℕ → Instr → ℕ → Bool
+free limits i (local c) x = true
+free limits i (read a v) x = true
+free limits i (write a v) x = true
+free limits i (synchronise P n) x = ltb 0 x
+free limits i (synchronise V n) x = ltb x (limits n)
+free limits i (synchronise Lock n) x = eqb x 0
+free limits i (synchronise Unlock n) x = eqb x i
 
 abbrev pub able-at : Code → State → ℕ → Option Instr → Bool
 able-at p m i none = false
-able-at p m i (some c) = free p i c (m .item (object c) .value)
+able-at p m i (some c) = free (p .limits) i c (m .item (object c) .value)
 
 abbrev pub able : Code → State → ℕ → Bool
 able p m i = able-at p m i (here p m i)
@@ -207,7 +207,7 @@ rises (synchronise o n) l x = ltb (l .count) 65535
 
 abbrev pub steps-at : Code → State → ℕ → Option Instr → Bool
 steps-at p m i none = false
-steps-at p m i (some c) = free p i c (m .item (object c) .value) && rises c (m .thread i) (m .item (object c))
+steps-at p m i (some c) = free (p .limits) i c (m .item (object c) .value) && rises c (m .thread i) (m .item (object c))
 
 -- whether the step of thread i can be made: it is able, and its 16-bit numbers can rise
 abbrev pub steps : Code → State → ℕ → Bool

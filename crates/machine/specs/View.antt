@@ -9,16 +9,16 @@ use lib.ListN.{length, getD, set, replicate}
 use Rattle.std.specs.Runs.{nth}
 use Rattle.std.specs.declared.option.Option.{Option as Answer}
 use Rattle.std.specs.declared.option.Option.the-variants.{Some, None}
-use Rattle.machine.specs.declared.machine.Operation.the-variants.{P, V, Lock, Unlock}
-use Rattle.machine.specs.declared.machine.Thread.{Thread}
-use Rattle.machine.specs.declared.machine.Item.{Item}
-use Rattle.machine.specs.declared.machine.Machine.{Machine}
-use Rattle.machine.specs.declared.program.Instruction.{Instruction}
-use Rattle.machine.specs.declared.program.Program.{Program}
-use Rattle.machine.specs.Form.{Usable}
+use Rattle.machine.specs.declared.Operation.the-variants.{P, V, Lock, Unlock}
+use Rattle.machine.specs.declared.Thread.{Thread}
+use Rattle.machine.specs.declared.Item.{Item}
+use Rattle.machine.specs.declared.Machine.{Machine}
+use Rattle.program.specs.declared.Instruction.{Instruction}
+use Rattle.program.specs.declared.Program.{Program}
+use Rattle.program.specs.Form.{Usable}
 use Rattle.machine.specs.Machine.{Instr, Local, Object, nothing, variable, semaphore, mutex, State, Code, object, next, touch, plain, idle, step, steps}
 use Rattle.machine.specs.Rules.{Steps}
-use Rattle.machine.specs.Programs.{texts, text-of}
+use Rattle.program.specs.Programs.{texts, fetched}
 
 -- what the arrays hold for an object
 abbrev pub item-of : Machine → Object → Item
@@ -45,21 +45,22 @@ meaning i =
     (cond (eqb (i .code) 9) (Instr.synchronise V (i .b))
     (cond (eqb (i .code) 10) (Instr.synchronise Lock (i .b)) (Instr.synchronise Unlock (i .b)))))))))))
 
--- the instruction of thread t at a place
-abbrev pub fetched : Program → ℕ → ℕ → Answer Instruction
-fetched p t place = nth (text-of p t) place
-
+-- what an instruction that is found means
 abbrev pub means : Answer Instruction → Option Instr
 means None = none
 means (Some i) = some (meaning i)
+
+-- the element of each number
+abbrev pub each-of : List ℕ → ℕ → ℕ
+each-of xs n = getD xs n 0
 
 -- what the program says
 abbrev pub code-of : Program → Code
 code-of p = record {
   threads = length (texts p);
   at = λ t place. means (fetched p t place);
-  starts = λ n. getD (p .starts) n 0;
-  limits = λ n. getD (p .limits) n 0;
+  starts = each-of (p .starts);
+  limits = each-of (p .limits);
 }
 
 -- the arrays with x for the object

@@ -4,14 +4,15 @@ ghost use mathlib.Core.Bool.{true, false, cond, _&&_};
 ghost use Prim.Native.Nat.{ℕ, suc, _+_, _-_, _<_, _≤_};
 ghost use lib.ListN.{length, getD};
 ghost use Rattle.std.specs.Options.{Cases as BySome};
-ghost use Rattle.machine.specs.Form.{Usable};
+ghost use Rattle.program.specs.Form.{Usable};
 ghost use Rattle.machine.specs.Machine.{Able, able, free, object, rises};
 ghost use Rattle.machine.specs.Says.{Says};
-ghost use Rattle.machine.specs.View.{Sized, Standing, Stepped, code-of, fetched, item-of, meaning, performed, view};
-use crate::machine::Item;
-use crate::machine::Machine;
-use crate::program::Instruction;
-use crate::program::Program;
+ghost use Rattle.program.specs.Programs.{fetched};
+ghost use Rattle.machine.specs.View.{Sized, Standing, Stepped, code-of, each-of, item-of, meaning, performed, view};
+use crate::Item;
+use crate::Machine;
+use program::Instruction;
+use program::Program;
 
 // the greatest 16-bit number
 const TOP: u16 = 65535;
@@ -35,19 +36,19 @@ impl Machine {
     {
         match self.current(program, thread) {
             None => false,
-            Some(i) => self.is_free(program, thread, i),
+            Some(i) => self.is_free(program.limits(), thread, i),
         }
     }
 
     // Whether nothing blocks the thread at the instruction.
-    fn is_free(&self, program: &Program, thread: u8, i: Instruction) -> bool
+    fn is_free(&self, limits: &[u8; 8], thread: u8, i: Instruction) -> bool
         requires { ⌜ Usable i ⌝ }
-        ensures { λ r. ⌜ r ≡ free (code-of (now (program .entry))) thread (meaning i) (item-of (now (self .entry)) (object (meaning i)) .value) ⌝ }
+        ensures { λ r. ⌜ r ≡ free (each-of (now (limits .entry))) thread (meaning i) (item-of (now (self .entry)) (object (meaning i)) .value) ⌝ }
     {
         let b = i.b as usize;
         match i.code {
             8 if self.semaphores[b] == 0 => false,
-            9 if self.semaphores[b] >= program.limits[b] => false,
+            9 if self.semaphores[b] >= limits[b] => false,
             10 if self.holders[b] != 0 => false,
             11 if self.holders[b] != thread => false,
             _ => true,
@@ -60,14 +61,14 @@ impl Machine {
     {
         match self.current(program, thread) {
             None => false,
-            Some(i) => self.make(program, thread, i),
+            Some(i) => self.make(program.limits(), thread, i),
         }
     }
 
     // Makes the instruction at which the thread stands; false, and nothing altered, where that cannot be.
-    fn make(&mut self, program: &Program, thread: u8, i: Instruction) -> bool
+    fn make(&mut self, limits: &[u8; 8], thread: u8, i: Instruction) -> bool
         requires { ⌜ Standing (now self) thread i ⌝ }
-        ensures answer { λ r. ⌜ r ≡ (free (code-of (now (program .entry))) (suc (thread - 1)) (meaning i) (item-of (now (self .entry)) (object (meaning i)) .value) && rises (meaning i) (view (now (self .entry)) .thread (suc (thread - 1))) (item-of (now (self .entry)) (object (meaning i)))) ⌝ }
+        ensures answer { λ r. ⌜ r ≡ (free (each-of (now (limits .entry))) (suc (thread - 1)) (meaning i) (item-of (now (self .entry)) (object (meaning i)) .value) && rises (meaning i) (view (now (self .entry)) .thread (suc (thread - 1))) (item-of (now (self .entry)) (object (meaning i)))) ⌝ }
         ensures sized { λ _. ⌜ Sized (now (self .entry)) ⌝ }
         ensures after { λ r. ⌜ now (self .exit) ≡ cond r (performed (thread - 1) (meaning i) (now (self .entry))) (now (self .entry)) ⌝ }
     {
@@ -110,7 +111,7 @@ impl Machine {
             }
             8 if self.semaphores[b] == 0 => return false,
             8 => self.semaphores[b] -= 1,
-            9 if self.semaphores[b] >= program.limits[b] => return false,
+            9 if self.semaphores[b] >= limits[b] => return false,
             9 => self.semaphores[b] += 1,
             10 if self.holders[b] != 0 => return false,
             10 => self.holders[b] = thread,

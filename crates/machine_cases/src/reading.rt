@@ -1,7 +1,7 @@
 // Byte strings, and what the reader makes of each.
-use machine::fault::Fault;
-use machine::program::Program;
-use machine::room::Room;
+use program::Program;
+use program::Room;
+use program::faults::Fault;
 use std::test::*;
 
 const WORKED: [u8; 44] = [

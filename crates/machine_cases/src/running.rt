@@ -1,9 +1,9 @@
 // Programs, the order in which their threads step, and what comes of it.
-use machine::fault::FaultDebug;
-use machine::machine::Machine;
-use machine::program::Instruction;
-use machine::program::Program;
-use machine::room::Room;
+use machine::Machine;
+use program::Instruction;
+use program::Program;
+use program::Room;
+use program::faults::FaultDebug;
 use std::test::*;
 
 const fn op(code: u8, a: u8, b: u16) -> Instruction {
@@ -117,7 +117,8 @@ fn no_such_thread(rt: LibcRuntime) -> Result<(), Fail> {
             p.text(3).len(),
         ),
         (2, 0, 1, 0),
-    )
+    )?;
+    check_eq((*p.starts(), *p.limits()), ([0; 8], [1; 8]))
 }
 
 #[test]

@@ -1,12 +1,11 @@
 // A tour of the product: does one task from beginning to end and prints each thing it did.
-use machine::fault::FaultDebug;
-use machine::machine::Item;
-use machine::machine::Machine;
-use machine::program::Instruction;
-use machine::program::Program;
-use machine::room::Room;
-use machine::show::InstructionDisplay;
-use machine::show::RefusalDisplay;
+use machine::Item;
+use machine::Machine;
+use program::Instruction;
+use program::Program;
+use program::Room;
+use program::text::InstructionDisplay;
+use refusal::text::RefusalDisplay;
 use std::error::AnyError;
 
 // Threads 1 and 2 read variable 0; thread 3 reads it, adds 1 and writes it back.
@@ -94,7 +93,10 @@ fn list(rt: &LibcRuntime, program: &Program, taken: usize) -> Result<(), AnyErro
 
 // Steps the threads in order, and shows what each step changed.
 fn run(rt: &LibcRuntime, program: &Program) -> Result<(), AnyError> {
-    println!(rt, "It is run, the threads stepping in the order {ORDER:?}.")?;
+    println!(
+        rt,
+        "It is run, the threads stepping in the order {ORDER:?}."
+    )?;
     let mut machine = Machine::start(program);
     for thread in ORDER {
         match machine.current(program, thread) {

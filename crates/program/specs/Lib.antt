@@ -1,0 +1,6 @@
+pub mod Form
+pub mod Refusals
+pub mod Rooms
+pub mod Reading
+pub mod Encoding
+pub mod Programs
