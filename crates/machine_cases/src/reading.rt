@@ -171,77 +171,62 @@ fn starts_and_limits(rt: LibcRuntime) -> Result<(), Fail> {
     Ok(())
 }
 
-// One thread of one instruction: code, a, b, and where that is refused.
+// Code, a and b of the one instruction of one thread: it takes 22 bytes, or is refused at its code, a or b.
+const OPERANDS: [(u8, u8, u16, Outcome); 48] = [
+    (1, 3, 65535, Taken(22)),
+    (1, 4, 0, Refused(19)),
+    (2, 3, 3, Taken(22)),
+    (2, 4, 0, Refused(19)),
+    (2, 0, 4, Refused(20)),
+    (3, 3, 3, Taken(22)),
+    (3, 4, 0, Refused(19)),
+    (3, 0, 4, Refused(20)),
+    (4, 3, 1, Taken(22)),
+    (4, 4, 0, Refused(19)),
+    (4, 0, 2, Refused(20)),
+    (4, 0, 65535, Refused(20)),
+    (5, 0, 1, Taken(22)),
+    (5, 1, 0, Refused(19)),
+    (5, 0, 2, Refused(20)),
+    (5, 0, 256, Refused(20)),
+    (6, 3, 15, Taken(22)),
+    (6, 4, 0, Refused(19)),
+    (6, 0, 16, Refused(20)),
+    (6, 0, 256, Refused(20)),
+    (7, 3, 15, Taken(22)),
+    (7, 4, 0, Refused(19)),
+    (7, 0, 16, Refused(20)),
+    (7, 255, 255, Refused(19)),
+    (8, 0, 7, Taken(22)),
+    (8, 1, 0, Refused(19)),
+    (8, 0, 8, Refused(20)),
+    (8, 0, 256, Refused(20)),
+    (9, 0, 7, Taken(22)),
+    (9, 1, 0, Refused(19)),
+    (9, 0, 8, Refused(20)),
+    (9, 0, 256, Refused(20)),
+    (10, 0, 7, Taken(22)),
+    (10, 1, 0, Refused(19)),
+    (10, 0, 8, Refused(20)),
+    (10, 0, 256, Refused(20)),
+    (11, 0, 7, Taken(22)),
+    (11, 1, 0, Refused(19)),
+    (11, 0, 8, Refused(20)),
+    (11, 3, 0, Refused(19)),
+    (0, 0, 0, Refused(18)),
+    (12, 0, 0, Refused(18)),
+    (255, 0, 0, Refused(18)),
+    (0, 9, 9, Refused(18)),
+    (1, 0, 0, Taken(22)),
+    (5, 0, 0, Taken(22)),
+    (8, 0, 0, Taken(22)),
+    (11, 0, 0, Taken(22)),
+];
+
 #[test]
 fn operands(rt: LibcRuntime) -> Result<(), Fail> {
-    let good = Taken(22);
-    let code = Refused(18);
-    let a = Refused(19);
-    let b = Refused(20);
-    let registers = [
-        (1, 3, 65535, good),
-        (1, 4, 0, a),
-        (2, 3, 3, good),
-        (2, 4, 0, a),
-        (2, 0, 4, b),
-        (3, 3, 3, good),
-        (3, 4, 0, a),
-        (3, 0, 4, b),
-    ];
-    let jumps = [
-        (4, 3, 1, good),
-        (4, 4, 0, a),
-        (4, 0, 2, b),
-        (5, 0, 1, good),
-        (5, 1, 0, a),
-        (5, 0, 2, b),
-        (5, 0, 256, b),
-        (4, 0, 65535, b),
-    ];
-    let variables = [
-        (6, 3, 15, good),
-        (6, 4, 0, a),
-        (6, 0, 16, b),
-        (6, 0, 256, b),
-        (7, 3, 15, good),
-        (7, 4, 0, a),
-        (7, 0, 16, b),
-        (7, 255, 255, a),
-    ];
-    let semaphores = [
-        (8, 0, 7, good),
-        (8, 1, 0, a),
-        (8, 0, 8, b),
-        (9, 0, 7, good),
-        (9, 1, 0, a),
-        (9, 0, 8, b),
-        (8, 0, 256, b),
-        (9, 0, 256, b),
-    ];
-    let locks = [
-        (10, 0, 7, good),
-        (10, 1, 0, a),
-        (10, 0, 8, b),
-        (11, 0, 7, good),
-        (11, 1, 0, a),
-        (11, 0, 8, b),
-        (10, 0, 256, b),
-        (11, 3, 0, a),
-    ];
-    let codes = [
-        (0, 0, 0, code),
-        (12, 0, 0, code),
-        (255, 0, 0, code),
-        (0, 9, 9, code),
-        (1, 0, 0, good),
-        (5, 0, 0, good),
-        (8, 0, 0, good),
-        (11, 0, 0, good),
-    ];
-    for table in [registers, jumps, variables, semaphores, locks, codes] {
-        for (code, a, b, outcome) in table {
-            check_eq(read(&rt, &single(code, a, b))?, outcome)?;
-        }
+    for (code, a, b, outcome) in OPERANDS {
+        check_eq(read(&rt, &single(code, a, b))?, outcome)?;
     }
     Ok(())
 }
