@@ -1,15 +1,11 @@
 -- A write to one element of an array is a put in the map that the array means.
-use mathlib.Core.Path.{_≡_, refl, sym, ap, subst, _∙_, fun-ext}
+use mathlib.Core.Path.{_≡_, refl, sym, ap, _∙_, fun-ext}
 use mathlib.Core.Logic.{_≢_}
-use mathlib.Core.Bool.{true, false, cond}
-use mathlib.Core.List.{List, [], _∷_}
-use Prim.Native.Nat.{ℕ, suc, _-_, _<_, _≤_}
+use mathlib.Core.List.{List, _∷_}
+use Prim.Native.Nat.{ℕ, suc, _<_}
 use native.Mathlib.Omega.{arith}
-use lib.Dec.{eqb}
 use lib.ListN.{length, getD, set}
 use lib.Seq.{getD-set-same, getD-set-other}
-use Rattle.std.proofs.shelf.Tests.{cond-both, eqb-true}
-use Rattle.std.proofs.shelf.Ways.{tells}
 use Rattle.machine.specs.declared.Operation.the-variants.{P, V, Lock, Unlock}
 use Rattle.machine.specs.declared.Thread.{Thread}
 use Rattle.machine.specs.declared.Item.{Item}
@@ -18,8 +14,10 @@ use Rattle.program.specs.declared.Instruction.{Instruction}
 use Rattle.program.specs.Form.{Usable}
 use Rattle.machine.specs.Map.{put, same-number}
 use Rattle.machine.specs.Machine.{Instr, Object, nothing, variable, semaphore, mutex, same-object, object, next, touch, plain, idle, perform}
+use Rattle.machine.specs.Proper.{In-range}
 use Rattle.machine.specs.View.{item-of, view, meaning, change, performed, Sized}
 use Rattle.machine.proofs.Maps.{put-is}
+use Rattle.machine.proofs.Programs.{in-range}
 
 pub view-set : {A : Type 0} (xs : List A) (k : ℕ) (x d : A) → k < length xs → (λ n. getD (set xs k x) n d) ≡ put same-number (λ n. getD xs n d) k x
 view-set xs k x d h =
@@ -78,15 +76,16 @@ items-of m ts (variable n) = refl
 items-of m ts (semaphore n) = refl
 items-of m ts (mutex n) = refl
 
+-- an object that there is has a place in the arrays
+placed : (o : Object) (m : Machine) → In-range o → Sized m → Fits o m
+placed nothing m h s = tt
+placed (variable n) m h s = omega arith
+placed (semaphore n) m h s = omega arith
+placed (mutex n) m h s = omega arith
+
 -- an instruction that can be made has its object in the arrays
 pub fits : (i : Instruction) (m : Machine) → Usable i → Sized m → Fits (object (meaning i)) m
-fits i m u s =
-    let Q : Instr → Type 0 = λ c. Fits (object c) m in
-    cond-both (eqb (i .code) 1) _ _ Q (λ _. tt) (λ n1. cond-both (eqb (i .code) 2) _ _ Q (λ _. tt) (λ n2.
-    cond-both (eqb (i .code) 3) _ _ Q (λ _. tt) (λ n3. cond-both (eqb (i .code) 4) _ _ Q (λ _. tt) (λ n4.
-    cond-both (eqb (i .code) 5) _ _ Q (λ _. tt) (λ n5. cond-both (eqb (i .code) 6) _ _ Q (λ e. grind (arith, tells)) (λ n6.
-    cond-both (eqb (i .code) 7) _ _ Q (λ e. grind (arith, tells)) (λ n7. cond-both (eqb (i .code) 8) _ _ Q (λ e. grind (arith, tells)) (λ n8.
-    cond-both (eqb (i .code) 9) _ _ Q (λ e. grind (arith, tells)) (λ n9. cond-both (eqb (i .code) 10) _ _ Q (λ e. grind (arith, tells)) (λ n10. grind (arith, tells)))))))))))
+fits i m u s = placed (object (meaning i)) m (in-range i u) s
 
 -- what the arrays mean after an instruction
 pub performs : (n : ℕ) (c : Instr) (m : Machine) → n < length (m .threads) → Fits (object c) m → view (performed n c m) ≡ perform (suc n) c (view m)

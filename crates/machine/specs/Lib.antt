@@ -4,3 +4,4 @@ pub mod Machine
 pub mod Rules
 pub mod Says
 pub mod View
+pub mod Proper

@@ -11,7 +11,7 @@ use Rattle.std.specs.Of.Vec.{vec-items, vec-len}
 use Rattle.std.specs.Runs.{nth}
 use Rattle.std.specs.declared.option.Option.the-variants.{Some, None}
 use Rattle.std.proofs.shelf.Maps.{nth-getD, nth-past}
-use Rattle.std.proofs.shelf.Lists.{getD-map, getD-past, length-map}
+use Rattle.std.proofs.shelf.Lists.{getD-past}
 use Rattle.std.proofs.shelf.Tests.{and-parts, leb-true}
 use Rattle.std.proofs.shelf.Ways.{tells}
 use Rattle.program.specs.declared.Instruction.{Instruction}
@@ -19,13 +19,14 @@ use Rattle.program.specs.declared.Program.{Program}
 use Rattle.program.specs.Form.{each, text-fits, fits, Usable}
 use Rattle.program.specs.Programs.{texts, text-of, fetched}
 use Rattle.program.proofs.Each.{each-at}
+use Rattle.program.proofs.Rows.{rows-length, row-at}
 
 -- a program has as many threads as texts
-pub rows : (p : Program) → vec-len (p .texts) ≡ length (texts p)
-rows p = p .texts .ok .0 ∙ sym (length-map (vec-items (p .texts)) vec-items)
+pub texts-length : (p : Program) → vec-len (p .texts) ≡ length (texts p)
+texts-length p = rows-length (p .texts)
 
 pub few : (p : Program) → length (texts p) ≤ 8
-few p = omega (arith, p .few, rows p)
+few p = omega (arith, p .few, texts-length p)
 
 -- there is no text past the last thread
 pub text-past : (p : Program) (t : ℕ) → length (texts p) < t → text-of p t ≡ []
@@ -35,7 +36,7 @@ text-past p t h = getD-past ([] ∷ texts p) t [] (omega arith)
 pub text-is : (p : Program) (t : ℕ) (v : Vec Instruction) → 1 ≤ t → t ≤ vec-len (p .texts) → v ≡ getD (vec-items (p .texts)) (t - 1) v → vec-items v ≡ text-of p t
 text-is p t v one most e =
     let own : suc (t - 1) ≡ t = omega arith in
-    ap vec-items e ∙ sym (getD-map vec-items (vec-items (p .texts)) (t - 1) v [] (omega (arith, p .texts .ok .0))) ∙ ap (text-of p) own
+    row-at (p .texts) (t - 1) v (omega arith) e ∙ ap (text-of p) own
 
 -- an instruction that fits can be made
 usable : (n : ℕ) (i : Instruction) → fits n i ≡ true → Usable i

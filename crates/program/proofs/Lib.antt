@@ -1,3 +1,4 @@
+pub mod Rows
 pub mod Each
 pub mod Fits
 pub mod Spans

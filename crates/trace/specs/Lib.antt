@@ -1,0 +1,9 @@
+pub mod Refusals
+pub mod Sound
+pub mod Rooms
+pub mod History
+pub mod Agreement
+pub mod Traces
+pub mod Drafts
+pub mod Finishes
+pub mod Checking

@@ -1,0 +1,3 @@
+// Tables of cases for traces and trace files.
+#[cfg(test)]
+mod drafts;
