@@ -1,4 +1,6 @@
 // A tour of the product: does one task from beginning to end and prints each thing it did.
+mod keeping;
+
 use machine::Item;
 use machine::Machine;
 use program::Instruction;
@@ -74,7 +76,8 @@ fn tour(rt: &LibcRuntime) -> Result<(), AnyError> {
             run(rt, &program)?;
         }
     }
-    refuse(rt)
+    refuse(rt)?;
+    keeping::keep(rt)
 }
 
 // What was read.
