@@ -10,7 +10,7 @@ use trace_file::read::read;
 use trace_file::write::write;
 
 // Makes the trace of the run, writes it, reads it back, and shows two files refused.
-pub fn keep(rt: &LibcRuntime) -> Result<(), AnyError> {
+pub(crate) fn keep(rt: &LibcRuntime) -> Result<(), AnyError> {
     println!(rt, "The run's trace is made.")?;
     let Some(trace) = worked(rt)? else {
         return Err("the worked trace is not sound".into());
