@@ -1,4 +1,6 @@
 // Following a trace: which threads are permitted, and what their steps use up.
+#![tactic(auto)]
+
 pub mod follower;
 mod seek;
 mod stage;

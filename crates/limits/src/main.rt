@@ -1,4 +1,6 @@
 // Tries programs and traces at their limits and one past them, and prints what each gave.
+#![tactic(auto)]
+
 use anyhow::anyhow;
 use program::{Program, Room};
 use trace::draft::Draft;

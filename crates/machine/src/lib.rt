@@ -1,4 +1,6 @@
 // The machine: threads over shared variables, semaphores and locks.
+#![tactic(auto)]
+
 pub mod state;
 pub mod step;
 

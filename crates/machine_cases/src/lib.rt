@@ -1,4 +1,6 @@
 // Tables of cases for the program reader and the machine.
+#![tactic(auto)]
+
 #[cfg(test)]
 mod reading;
 #[cfg(test)]

@@ -1,4 +1,6 @@
 // Programs: the instructions of one to eight threads, and the semaphores' starts and limits.
+#![tactic(auto)]
+
 pub mod code;
 pub mod faults;
 mod memory;

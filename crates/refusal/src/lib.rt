@@ -1,4 +1,6 @@
 // What a refusal says, in the same words for every layer.
+#![tactic(auto)]
+
 pub mod text;
 
 // The layer that refuses.

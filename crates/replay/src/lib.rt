@@ -1,4 +1,6 @@
 // Replays of traces: permits for single steps, and runs under a scheduler.
+#![tactic(auto)]
+
 pub mod faults;
 pub mod permits;
 pub mod runs;

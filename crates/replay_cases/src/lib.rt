@@ -1,4 +1,6 @@
 // Tables of cases for replays.
+#![tactic(auto)]
+
 #[cfg(test)]
 mod budgets;
 #[cfg(test)]

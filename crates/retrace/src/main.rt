@@ -1,4 +1,6 @@
 // Replays a trace to its end: reads a program and then a trace file from standard input, and prints how it ended.
+#![tactic(auto)]
+
 use anyhow::anyhow;
 use machine::{Item, Machine};
 use program::{Program, Room};

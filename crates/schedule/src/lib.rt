@@ -1,4 +1,6 @@
 // Sets of threads, and the schedulers that choose from them.
+#![tactic(auto)]
+
 pub mod scheduler;
 pub mod seeded;
 pub mod set;

@@ -1,4 +1,6 @@
 // A tour of the product: does one task from beginning to end and prints each thing it did.
+#![tactic(auto)]
+
 mod keeping;
 mod replaying;
 

@@ -1,4 +1,6 @@
 // Tables of cases for traces and trace files.
+#![tactic(auto)]
+
 #[cfg(test)]
 mod drafts;
 #[cfg(test)]

@@ -10,5 +10,5 @@ pub returns-in-Some : goal.returns-in-Some
 returns-in-Some c =
     let p = code_of c.args.program.now in
     let m = view c.args.self.now in
-    let e = able_at_found c.args.program.now c.limits.result.now c.args.self.now c.args.thread c.in-Some.i c.is-free.result c.limits.ensures c.in-Some.ensures.value c.is-free.ensures in
+    let e = able_at_found c.args.program.now c.limits.result.now c.args.self.now c.args.thread c.in-Some.i c.is_free.result c.limits.ensures c.in-Some.ensures.value c.is_free.ensures in
     record { answer = e; means = subst (λ (b : Bool). Says b (Able p m c.args.thread)) (sym e) (says_able p m c.args.thread) }

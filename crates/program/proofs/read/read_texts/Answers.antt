@@ -17,13 +17,13 @@ loop-init c = (
   start (text c.args.bytes.now) _ _ _ (omega (arith, length-map (vec_items c.args.room.texts) vec_items, c.args.room.texts.ok.0, c.args.room.empty)),
 )
 
-pub read-text-requires : goal.read-text-requires
-read-text-requires c = (each_pop spare (vec_items c.pop.new.self) _ _ c.unwrap.ensures c.pop.ensures.items c.loop.invariant.3).1
+pub read_text-requires : goal.read_text-requires
+read_text-requires c = (each_pop spare (vec_items c.pop.new.self) _ _ c.unwrap.ensures c.pop.ensures.items c.loop.invariant.3).1
 
-pub returns-in-err-text : goal.returns-in-err-text
-returns-in-err-text c =
-    let p = err_from_is_err_and c.from-residual.result c.from-residual.ensures.1 in
-    rw (p.1, p.2) (stop (text c.args.bytes.now) _ _ _ _ c.loop-test.true _ c.in-err-text.ensures ∙ c.loop.invariant.4)
+pub returns-in_err-text : goal.returns-in_err-text
+returns-in_err-text c =
+    let p = err_from_is_err_and c.from_residual.result c.from_residual.ensures.1 in
+    rw (p.1, p.2) (stop (text c.args.bytes.now) _ _ _ _ c.loop-test.true _ c.in_err-text.ensures ∙ c.loop.invariant.4)
 
 pub loop-preserved : goal.loop-preserved
 loop-preserved c = (
@@ -31,5 +31,5 @@ loop-preserved c = (
   omega arith,
   omega (arith, c.pop.ensures.len, ap (λ o. length (option_to_list o)) c.unwrap.ensures),
   (each_pop spare (vec_items c.pop.new.self) _ _ c.unwrap.ensures c.pop.ensures.items c.loop.invariant.3).0,
-  turn (text c.args.bytes.now) _ _ _ _ c.loop-test.true _ _ _ c.in-ok-text.ensures (ap (map vec_items) c.push-reserved.ensures.items ∙ map_push vec_items _ _) ∙ c.loop.invariant.4,
+  turn (text c.args.bytes.now) _ _ _ _ c.loop-test.true _ _ _ c.in_ok-text.ensures (ap (map vec_items) c.push_reserved.ensures.items ∙ map_push vec_items _ _) ∙ c.loop.invariant.4,
 )

@@ -14,12 +14,12 @@ returns-in-Some c =
     (λ j. Err (Stuck i ((c.place.ensures ∙ ap (λ (m : State). (m.thread i).place) c.machine.ensures) j) (c.object.ensures j) (c.steps-steps.ensures j)))
     ∙ ap (λ l. end_at (program_of r) (shown r) l (Rattle.following.specs.Ends.first_unused (shown r).progress.left)) c.in-Some.ensures
 
-pub returns-in-Some-first-unused : goal.returns-in-Some-first-unused
+pub returns-in-Some-first_unused : goal.returns-in-Some-first_unused
 unfolding shown
-returns-in-Some-first-unused c =
+returns-in-Some-first_unused c =
     let r = c.args.self.now in
-    ap (λ n. Err (Unused c.in-Some-first-unused.object n)) c.steps-steps.ensures
-    ∙ (λ j. end_at (program_of r) (shown r) (c.in-default.ensures j) (c.in-Some-first-unused.ensures j))
+    ap (λ n. Err (Unused c.in-Some-first_unused.object n)) c.steps-steps.ensures
+    ∙ (λ j. end_at (program_of r) (shown r) (c.in-default.ensures j) (c.in-Some-first_unused.ensures j))
 
 pub returns-in-None : goal.returns-in-None
 unfolding shown

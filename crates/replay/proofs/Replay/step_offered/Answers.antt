@@ -16,7 +16,7 @@ returns-then-local c =
     let pe : program_of m ≡ program_of r = ap (λ y. code_of y.now) c.step.ensures.parts.0 in
     let te : trace_of m ≡ trace_of r = ap (λ y. history (parts y.now)) c.step.ensures.parts.1 in
     let own = c.permitted.ensures ∙ (λ j. permitted (pe j) (te j) x c.args.thread) in
-    let on = offer_kept r.follower.program.now (trace_of r) (shown r).progress x c.args.thread c.args.offer c.permitted.result (sym c.if-local.true ∙ c.is-local-local.ensures) (ap (λ (s : Replaying). s.progress) c.step.ensures.after) c.requires.offered own in
+    let on = offer_kept r.follower.program.now (trace_of r) (shown r).progress x c.args.thread c.args.offer c.permitted.result (sym c.if-local.true ∙ c.is_local-local.ensures) (ap (λ (s : Replaying). s.progress) c.step.ensures.after) c.requires.offered own in
     record { offered = c.with.ensures ∙ on ∙ sym (λ j. offers (pe j) (te j) x); after = c.step.ensures.after; parts = c.step.ensures.parts }
 
 pub returns : goal.returns

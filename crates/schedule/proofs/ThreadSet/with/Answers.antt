@@ -8,6 +8,6 @@ returns c =
     c.of.ensures
     ∙ (λ j. record {
       offered =
-          c.has-with.ensures j ∷ c.has-with-2.ensures j ∷ c.has-with-3.ensures j ∷ c.has-with-4.ensures j
-          ∷ c.has-with-5.ensures j ∷ c.has-with-6.ensures j ∷ c.has-with-7.ensures j ∷ c.has-with-8.ensures j ∷ [];
+          c.has_with.ensures j ∷ c.has_with-2.ensures j ∷ c.has_with-3.ensures j ∷ c.has_with-4.ensures j
+          ∷ c.has_with-5.ensures j ∷ c.has_with-6.ensures j ∷ c.has_with-7.ensures j ∷ c.has_with-8.ensures j ∷ [];
     })

@@ -19,22 +19,22 @@ at_place : (f : Follower) (k : ℕ) (b r : Bool) → (k < 32) → r ≡ some_eve
 unfolding seen
 at_place f k b r h e is = ap (λ (n : ℕ). some_event (rest f.stage.used n (row f.trace.now n))) (place_back k h) ∙ sym e ∙ is
 
-pub some-left-requires : goal.some-left-requires
-some-left-requires c = let k = held c.args.self.now.kept in record { sized = k.sized; settled = k.settled; place = c.loop-place-test.true }
+pub some_left-requires : goal.some_left-requires
+some_left-requires c = let k = held c.args.self.now.kept in record { sized = k.sized; settled = k.settled; place = c.loop-place-test.true }
 
-pub returns-then-some-left : goal.returns-then-some-left
+pub returns-then-some_left : goal.returns-then-some_left
 unfolding first_unused
-returns-then-some-left c =
+returns-then-some_left c =
     let f = c.args.self.now in
     let k = c.loop-place.place in
-    c.object-at.ensures ∙ cond-true (ltb k 32) (Some (name_at k)) None (lt-ltb k 32 c.loop-place-test.true)
-    ∙ ap name_found (sym (found (test f) k 32 c.loop-place-test.true (at_place f k _ c.some-left.result c.loop-place-test.true c.some-left.ensures c.if-some-left.true)) ∙ c.loop-place.invariant)
+    c.object_at.ensures ∙ cond-true (ltb k 32) (Some (name_at k)) None (lt-ltb k 32 c.loop-place-test.true)
+    ∙ ap name_found (sym (found (test f) k 32 c.loop-place-test.true (at_place f k _ c.some_left.result c.loop-place-test.true c.some_left.ensures c.if-some_left.true)) ∙ c.loop-place.invariant)
 
 pub loop-place-preserved : goal.loop-place-preserved
 loop-place-preserved c =
     let f = c.args.self.now in
     let k = c.loop-place.place in
-    sym (passed (test f) k 32 c.loop-place-test.true (at_place f k _ c.some-left.result c.loop-place-test.true c.some-left.ensures c.if-some-left.false)) ∙ c.loop-place.invariant
+    sym (passed (test f) k 32 c.loop-place-test.true (at_place f k _ c.some_left.result c.loop-place-test.true c.some_left.ensures c.if-some_left.false)) ∙ c.loop-place.invariant
 
 pub returns : goal.returns
 unfolding first_unused

@@ -3,4 +3,4 @@ use Rattle.following.proofs.follower.Follower.is_local.Goals as goal
 
 pub returns : goal.returns
 unfolding seen
-returns c = c.is-local.ensures
+returns c = c.is_local.ensures

@@ -3,5 +3,5 @@ use Rattle.trace.specs.declared.Event.{Event}
 use Rattle.following.proofs.Lengths.{short}
 use Rattle.following.proofs.used.Used.none.Goals as goal
 
-pub first-places-requires : goal.first-places-requires
-first-places-requires c = subst (λ (q : List Event). length q < 65536) (sym c.sequence-at.ensures) (short c.args.trace.now c.loop-place.place)
+pub first_places-requires : goal.first_places-requires
+first_places-requires c = subst (λ (q : List Event). length q < 65536) (sym c.sequence_at.ensures) (short c.args.trace.now c.loop-place.place)

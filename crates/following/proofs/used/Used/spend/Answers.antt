@@ -9,8 +9,8 @@ mark-requires c =
     let u = c.args.self.now in
     let d = subst (λ a. Due t u c.args.thread a) c.in-Some.is c.requires.due in
     record {
-      inside = subst (λ (k : ℕ). Inside c.args.thread k) (sym c.place-of.ensures) d.0;
+      inside = subst (λ (k : ℕ). Inside c.args.thread k) (sym c.place_of.ensures) d.0;
       sized = c.requires.sized;
-      short = short t c.place-of.result;
-      due = subst (λ (k : ℕ). next_at u k c.args.thread < length (row t k)) (sym c.place-of.ensures) d.1;
+      short = short t c.place_of.result;
+      due = subst (λ (k : ℕ). next_at u k c.args.thread < length (row t k)) (sym c.place_of.ensures) d.1;
     }

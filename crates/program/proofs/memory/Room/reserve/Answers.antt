@@ -5,4 +5,4 @@ use Rattle.program.proofs.memory.Room.reserve.Goals as goal
 
 pub loop-preserved : goal.loop-preserved
 loop-preserved c =
-    (omega arith, omega arith, each_push spare (vec_items c.loop.spares) _ c.push-reserved.ensures.items c.loop.invariant.2 c.in-ok-spare-text.ensures)
+    (omega arith, omega arith, each_push spare (vec_items c.loop.spares) _ c.push_reserved.ensures.items c.loop.invariant.2 c.in_ok-spare_text.ensures)
