@@ -19,11 +19,11 @@ unfolding shown
 returns-in-Some-first_unused c =
     let r = c.args.self.now in
     ap (λ n. Err (Unused c.in-Some-first_unused.object n)) c.steps-steps.ensures
-    ∙ (λ j. end_at (program_of r) (shown r) (c.in-default.ensures j) (c.in-Some-first_unused.ensures j))
+    ∙ (λ j. end_at (program_of r) (shown r) (c.in_default.ensures j) (c.in-Some-first_unused.ensures j))
 
 pub returns-in-None : goal.returns-in-None
 unfolding shown
 returns-in-None c =
     let r = c.args.self.now in
     ap (λ n. Ok (Complete n)) c.steps-steps.ensures
-    ∙ (λ j. end_at (program_of r) (shown r) (c.in-default.ensures j) (c.in-None.ensures j))
+    ∙ (λ j. end_at (program_of r) (shown r) (c.in_default.ensures j) (c.in-None.ensures j))

@@ -3,9 +3,9 @@ use Rattle.replay.specs.Replays.{shown}
 use Rattle.replay.proofs.Called.{none_held, other_held, held_by}
 use Rattle.replay.proofs.Replay.holds.Goals as goal
 
-pub returns-in-default : goal.returns-in-default
+pub returns-in_default : goal.returns-in_default
 unfolding shown
-returns-in-default c = none_held (shown c.args.self.now) c.args.permit.now c.in-default.is
+returns-in_default c = none_held (shown c.args.self.now) c.args.permit.now c.in_default.is
 
 pub returns-then-thread-permit : goal.returns-then-thread-permit
 unfolding shown
