@@ -8,7 +8,7 @@ use Rattle.following.proofs.Starts.{opens, kept_first}
 use Rattle.following.proofs.follower.Follower.new.Goals as goal
 
 pub invariant_of-result : goal.invariant_of-result
-invariant_of-result c = (∣ kept_first c.args.trace.now c.none.result c.none.ensures.long c.none.ensures.cursors c.none.ensures.fronts (code_of c.args.program.now) c.start.result c.start.ensures.value ∣₁, tt)
+invariant_of-result c = record { kept = ∣ kept_first c.args.trace.now c.none.result c.none.ensures.long c.none.ensures.cursors c.none.ensures.fronts (code_of c.args.program.now) c.start.result c.start.ensures.value ∣₁ }
 
 pub returns : goal.returns
 unfolding seen

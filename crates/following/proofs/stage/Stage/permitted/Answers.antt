@@ -14,9 +14,9 @@ pub returns-then-is_local : goal.returns-then-is_local
 returns-then-is_local c =
     local_may (code_of c.args.program.now) c.args.trace.now c.args.self.now c.args.thread (sym c.if-not-below.false ∙ c.below.ensures) (sym c.if-is_local.true ∙ c.is_local.ensures)
 
-pub returns-then-not_able : goal.returns-then-not_able
-returns-then-not_able c =
-    not_able (code_of c.args.program.now) c.args.trace.now c.args.self.now c.args.thread (sym c.if-not-below.false ∙ c.below.ensures) (sym c.if-not_able.true ∙ c.able.ensures.answer)
+pub returns-then-not-able : goal.returns-then-not-able
+returns-then-not-able c =
+    not_able (code_of c.args.program.now) c.args.trace.now c.args.self.now c.args.thread (sym c.if-not-below.false ∙ c.below.ensures) (sym c.if-not-able.true ∙ c.able.ensures.answer)
 
 pub is_due-requires : goal.is_due-requires
 is_due-requires c =
@@ -27,12 +27,12 @@ is_due-requires c =
 
 pub returns-in-None : goal.returns-in-None
 returns-in-None c =
-    no_event (code_of c.args.program.now) c.args.trace.now c.args.self.now c.args.thread (sym c.if-not-below.false ∙ c.below.ensures) (sym c.if-not_able.false ∙ c.able.ensures.answer) c.in-None.ensures
+    no_event (code_of c.args.program.now) c.args.trace.now c.args.self.now c.args.thread (sym c.if-not-below.false ∙ c.below.ensures) (sym c.if-not-able.false ∙ c.able.ensures.answer) c.in-None.ensures
 
 pub returns-in-Some : goal.returns-in-Some
 returns-in-Some c =
     let p = c.args.program.now in
     let m = view c.args.self.now.machine in
     let a = c.in-Some.access in
-    event_may (code_of p) c.args.trace.now c.args.self.now c.args.thread (sym c.if-not-below.false ∙ c.below.ensures) (sym c.if-not_able.false ∙ c.able.ensures.answer) (proper p) c.requires (named a.object) a.event
+    event_may (code_of p) c.args.trace.now c.args.self.now c.args.thread (sym c.if-not-below.false ∙ c.below.ensures) (sym c.if-not-able.false ∙ c.able.ensures.answer) (proper p) c.requires (named a.object) a.event
     (accesses (code_of p) m c.args.thread (named a.object) a.event c.in-Some.ensures) c.is_due.result c.is_due.ensures
