@@ -68,11 +68,11 @@ impl Replay<'_> {
 
     // Steps the permitted thread that the scheduler names, and tells it, until none is permitted or the budget is used up.
     pub fn run<S: Scheduler>(&mut self, budget: u32, scheduler: &mut S) -> Result<Ending, Fault>
-        ensures answer { result ≡ (runs (program_of self.old) (trace_of self.old) budget (shown self.old) (strategy rule next scheduler.old)).answer }
-        ensures after { shown self.new ≡ (runs (program_of self.old) (trace_of self.old) budget (shown self.old) (strategy rule next scheduler.old)).after }
+        ensures answer { result ≡ (runs (program_of self.old) (trace_of self.old) budget (shown self.old) (strategy S.rule S.next scheduler.old)).answer }
+        ensures after { shown self.new ≡ (runs (program_of self.old) (trace_of self.old) budget (shown self.old) (strategy S.rule S.next scheduler.old)).after }
         ensures parts { SameParts self.old self.new }
-        ensures scheduler { scheduler.new ≡ tells rule next scheduler.old (runs (program_of self.old) (trace_of self.old) budget (shown self.old) (strategy rule next scheduler.old)).told }
-        ensures picks { Picks (strategy rule next scheduler.old) }
+        ensures scheduler { scheduler.new ≡ tells S.rule S.next scheduler.old (runs (program_of self.old) (trace_of self.old) budget (shown self.old) (strategy S.rule S.next scheduler.old)).told }
+        ensures picks { Picks (strategy S.rule S.next scheduler.old) }
     {
         if self.out.is_some() {
             return Err(Fault::PermitOut);
