@@ -3,7 +3,7 @@ use crate::build::{bump, bump_trace, op, program, trace};
 use replay::faults::Fault;
 use replay::{Ending, Replay};
 use schedule::Turn;
-use std::test::*;
+use std::test::Fail;
 
 fn complete(steps: u32) -> Result<Ending, Fault> {
     Ok(Ending::Complete { steps })

@@ -2,7 +2,8 @@
 use machine::{Machine, Operation};
 use program::{Instruction, Program};
 use refusal::Object;
-use std::test::*;
+use std::process::Abort;
+use std::test::Fail;
 use trace::access::place_of;
 use trace::draft::Draft;
 use trace::next::Access;
@@ -30,7 +31,7 @@ pub fn sync(thread: u8, operation: Operation) -> Event {
 
 // A program of these threads, every semaphore with this start and limit.
 pub fn program(
-    rt: &HostRuntime,
+    rt: &(impl Abort + AllocGlobal),
     start: u8,
     limit: u8,
     texts: &[&[Instruction]],
@@ -53,28 +54,36 @@ pub fn program(
         }
     }
     let (program, taken) = Program::read(program::Room::reserve(rt.alloc())?, bytes.as_slice())?;
-    assert_eq!(taken, bytes.len());
+    assert_eq!(rt; taken, bytes.len());
     Ok(program)
 }
 
-fn draft(rt: &HostRuntime, threads: u8) -> Result<Draft, Fail> {
+fn draft(rt: &(impl Abort + AllocGlobal), threads: u8) -> Result<Draft, Fail> {
     Ok(Draft::new(trace::Room::reserve(rt.alloc())?, threads).ok_or("no draft")?)
 }
 
 // A trace of these events, with the counts of threads 1, 2 and so on.
-pub fn trace(rt: &HostRuntime, events: &[(Object, Event)], counts: &[u16]) -> Result<Trace, Fail> {
+pub fn trace(
+    rt: &(impl Abort + AllocGlobal),
+    events: &[(Object, Event)],
+    counts: &[u16],
+) -> Result<Trace, Fail> {
     let mut draft = draft(rt, u8::try_from(counts.len())?)?;
     for (object, event) in events {
-        assert!(draft.add(place_of(*object), *event));
+        assert!(rt; draft.add(place_of(*object), *event));
     }
     for (thread, count) in (1..=8u8).zip(counts) {
-        assert!(draft.set_count(thread, *count));
+        assert!(rt; draft.set_count(thread, *count));
     }
     Ok(draft.finish()?)
 }
 
 // A trace of these events of variable 0.
-pub fn of_variable_0(rt: &HostRuntime, events: &[Event], counts: &[u16]) -> Result<Trace, Fail> {
+pub fn of_variable_0(
+    rt: &(impl Abort + AllocGlobal),
+    events: &[Event],
+    counts: &[u16],
+) -> Result<Trace, Fail> {
     let mut all = Vec::new(rt.alloc());
     for event in events {
         all.push((Object::Variable(0), *event))?;
@@ -84,7 +93,7 @@ pub fn of_variable_0(rt: &HostRuntime, events: &[Event], counts: &[u16]) -> Resu
 
 // The machine after steps of these threads, and the trace of this run.
 pub fn recorded(
-    rt: &HostRuntime,
+    rt: &(impl Abort + AllocGlobal),
     program: &Program,
     order: &[u8],
 ) -> Result<(Machine, Trace), Fail> {
@@ -92,31 +101,31 @@ pub fn recorded(
     let mut draft = draft(rt, program.threads())?;
     for thread in order {
         if let Some(access) = Access::next(&machine, program, *thread) {
-            assert!(draft.add(place_of(access.object), access.event));
+            assert!(rt; draft.add(place_of(access.object), access.event));
         }
-        assert!(machine.step(program, *thread));
+        assert!(rt; machine.step(program, *thread));
     }
     for thread in 1..=program.threads() {
-        assert!(draft.set_count(thread, machine.count(thread)));
+        assert!(rt; draft.set_count(thread, machine.count(thread)));
     }
     Ok((machine, draft.finish()?))
 }
 
 // Threads 1 and 2 read variable 0; thread 3 reads it and writes 1 more back.
-pub fn bump(rt: &HostRuntime) -> Result<Program, Fail> {
+pub fn bump(rt: &(impl Abort + AllocGlobal)) -> Result<Program, Fail> {
     let reads = [op(6, 0, 0)];
     let bumps = [op(6, 0, 0), op(1, 1, 1), op(2, 0, 1), op(7, 0, 0)];
     program(rt, 0, 1, &[&reads, &reads, &bumps])
 }
 
 // The trace of its run 3, 1, 3, 3, 3, 2, with counts of one's own.
-pub fn bump_trace(rt: &HostRuntime, counts: &[u16; 3]) -> Result<Trace, Fail> {
+pub fn bump_trace(rt: &(impl Abort + AllocGlobal), counts: &[u16; 3]) -> Result<Trace, Fail> {
     let events = [read(3, 0), read(1, 0), write(3, 0, 2), read(2, 1)];
     of_variable_0(rt, &events, counts)
 }
 
 // A trace of it in which thread 2 reads before the write.
-pub fn early_trace(rt: &HostRuntime) -> Result<Trace, Fail> {
+pub fn early_trace(rt: &(impl Abort + AllocGlobal)) -> Result<Trace, Fail> {
     let events = [read(3, 0), read(1, 0), read(2, 0), write(3, 0, 3)];
     of_variable_0(rt, &events, &[1, 1, 4])
 }

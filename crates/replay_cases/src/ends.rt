@@ -8,7 +8,8 @@ use refusal::{Layer, Object, Refusal};
 use replay::Replay;
 use replay::faults::Fault;
 use schedule::{Seeded, Turn};
-use std::test::*;
+use std::process::Abort;
+use std::test::Fail;
 use trace::Event;
 
 fn stuck(thread: u8, place: u16, object: Option<Object>, steps: u32) -> Fault {
@@ -22,7 +23,7 @@ fn stuck(thread: u8, place: u16, object: Option<Object>, steps: u32) -> Fault {
 
 // A thread that is never permitted its one instruction: the object is named.
 fn waits(
-    rt: &HostRuntime,
+    rt: &(impl Abort + AllocGlobal),
     start: u8,
     instruction: Instruction,
     object: Object,
@@ -30,7 +31,7 @@ fn waits(
 ) -> Result<(), Fail> {
     let waiting = program(rt, start, 1, &[&[instruction]])?;
     let trace = trace(rt, &[(object, event)], &[1])?;
-    let _ = always(&waiting, &trace, Err(stuck(1, 0, Some(object), 0)))?;
+    let _ = always(rt, &waiting, &trace, Err(stuck(1, 0, Some(object), 0)))?;
     Ok(())
 }
 
@@ -92,7 +93,7 @@ fn a_lock_is_held(rt: HostRuntime) -> Result<(), Fail> {
         (object, sync(2, Operation::Lock)),
     ];
     let trace = trace(&rt, &events, &[1, 1])?;
-    let _ = always(&both, &trace, Err(stuck(2, 0, Some(object), 1)))?;
+    let _ = always(&rt, &both, &trace, Err(stuck(2, 0, Some(object), 1)))?;
     Ok(())
 }
 
@@ -100,8 +101,18 @@ fn a_lock_is_held(rt: HostRuntime) -> Result<(), Fail> {
 #[test]
 fn it_has_ended(rt: HostRuntime) -> Result<(), Fail> {
     let sets = program(&rt, 0, 1, &[&[op(1, 0, 7)], &[]])?;
-    let _ = always(&sets, &trace(&rt, &[], &[2, 0])?, Err(stuck(1, 1, None, 1)))?;
-    let end = always(&sets, &trace(&rt, &[], &[1, 3])?, Err(stuck(2, 0, None, 1)))?;
+    let _ = always(
+        &rt,
+        &sets,
+        &trace(&rt, &[], &[2, 0])?,
+        Err(stuck(1, 1, None, 1)),
+    )?;
+    let end = always(
+        &rt,
+        &sets,
+        &trace(&rt, &[], &[1, 3])?,
+        Err(stuck(2, 0, None, 1)),
+    )?;
     assert_eq!(rt; end.registers[0], 7);
     Ok(())
 }
@@ -116,16 +127,20 @@ fn the_lowest_thread(rt: HostRuntime) -> Result<(), Fail> {
         ([1, 0, 5], stuck(3, 4, None, 5)),
         ([0, 0, 4], stuck(3, 3, Some(Object::Variable(0)), 3)),
     ] {
-        let _ = always(&program, &bump_trace(&rt, &counts)?, Err(fault))?;
+        let _ = always(&rt, &program, &bump_trace(&rt, &counts)?, Err(fault))?;
     }
     Ok(())
 }
 
 // Of these events, in a replay with no steps, the first object is named.
-fn unused(rt: &HostRuntime, events: &[(Object, Event)], object: Object) -> Result<(), Fail> {
+fn unused(
+    rt: &(impl Abort + AllocGlobal),
+    events: &[(Object, Event)],
+    object: Object,
+) -> Result<(), Fail> {
     let idle = program(rt, 0, 1, &[&[]])?;
     let trace = trace(rt, events, &[0])?;
-    let _ = always(&idle, &trace, Err(Fault::Unused { object, steps: 0 }))?;
+    let _ = always(rt, &idle, &trace, Err(Fault::Unused { object, steps: 0 }))?;
     Ok(())
 }
 

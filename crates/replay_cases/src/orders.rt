@@ -7,7 +7,7 @@ use refusal::Object;
 use replay::faults::Fault;
 use replay::{Ending, Replay};
 use schedule::Turn;
-use std::test::*;
+use std::test::Fail;
 
 fn complete(steps: u32) -> Result<Ending, Fault> {
     Ok(Ending::Complete { steps })
@@ -29,7 +29,7 @@ fn a_thread_waits_for_its_turn(rt: HostRuntime) -> Result<(), Fail> {
         Ok(Ending::Spent { steps: 2 })
     );
     assert_eq!(rt; step(&mut replay, 2), Err(Fault::NotPermitted));
-    let end = always(&waits, &trace, complete(5))?;
+    let end = always(&rt, &waits, &trace, complete(5))?;
     assert_eq!(rt; (end.values[0], end.registers[0]), (5, 5));
     Ok(())
 }
@@ -59,7 +59,7 @@ fn reads_of_two_versions(rt: HostRuntime) -> Result<(), Fail> {
         write(2, 1, 1),
     ];
     let trace = of_variable_0(&rt, &events, &[4, 4, 1])?;
-    let end = always(&twice, &trace, complete(9))?;
+    let end = always(&rt, &twice, &trace, complete(9))?;
     assert_eq!(rt; end.values[0], 2);
     assert_eq!(rt; end.registers, [1, 2, 0, 0, 0, 0, 0, 0]);
     Ok(())
@@ -96,7 +96,7 @@ fn crossed_locks(rt: HostRuntime) -> Result<(), Fail> {
         (Object::Lock(1), sync(2, Operation::Lock)),
     ];
     let trace = trace(&rt, &events, &[1, 1])?;
-    let _ = always(&crossed, &trace, complete(2))?;
+    let _ = always(&rt, &crossed, &trace, complete(2))?;
     let mut replay = Replay::new(&crossed, &trace)?;
     assert_eq!(rt; replay.run(100, &mut Turn::new(1)), complete(2));
     let machine = replay.machine();

@@ -5,7 +5,7 @@ use crate::steps::{Fate, exchange, hold, misplace, step, while_out};
 use replay::faults::Fault;
 use replay::{Ending, Replay};
 use schedule::Turn;
-use std::test::*;
+use std::test::Fail;
 
 const COMPLETE: Result<Ending, Fault> = Ok(Ending::Complete { steps: 6 });
 

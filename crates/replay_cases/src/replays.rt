@@ -4,7 +4,8 @@ use program::Program;
 use replay::faults::Fault;
 use replay::{Ending, Replay};
 use schedule::{Scheduler, Seeded, Turn};
-use std::test::*;
+use std::process::Abort;
+use std::test::Fail;
 use trace::Trace;
 
 // The values of all variables, and the first registers of all threads.
@@ -43,16 +44,17 @@ fn under<'a, S: Scheduler>(
 
 // A replay comes out so under each scheduler; what the machine then holds, which is the same each time.
 pub fn always<'a>(
+    rt: &impl Abort,
     program: &'a Program,
     trace: &'a Trace,
     expected: Result<Ending, Fault>,
 ) -> Result<Held, Fail> {
     let (answer, end) = under(program, trace, &mut Turn::new(1))?;
-    assert_eq!(answer, expected);
+    assert_eq!(rt; answer, expected);
     for seed in [1, 12345] {
         let (answer, other) = under(program, trace, &mut Seeded::new(seed))?;
-        assert_eq!(answer, expected);
-        assert_eq!(other, end);
+        assert_eq!(rt; answer, expected);
+        assert_eq!(rt; other, end);
     }
     Ok(end)
 }

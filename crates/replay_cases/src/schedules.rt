@@ -3,10 +3,11 @@ use crate::build::{op, program, recorded};
 use crate::replays::{always, contents};
 use program::Program;
 use replay::Ending;
-use std::test::*;
+use std::process::Abort;
+use std::test::Fail;
 
 // Threads 1 and 2 add 1 to variable 0 under lock 0, and then V; thread 3 waits for a V and copies variable 0 to 1.
-fn shared(rt: &HostRuntime) -> Result<Program, Fail> {
+fn shared(rt: &(impl Abort + AllocGlobal)) -> Result<Program, Fail> {
     let adds = [
         op(10, 0, 0),
         op(6, 0, 0),
@@ -21,12 +22,12 @@ fn shared(rt: &HostRuntime) -> Result<Program, Fail> {
 }
 
 // The run of these threads replays with its own number of steps and its own machine; what variable 1 ends at.
-fn replayed(rt: &HostRuntime, order: &[u8]) -> Result<u32, Fail> {
+fn replayed(rt: &(impl Abort + AllocGlobal), order: &[u8]) -> Result<u32, Fail> {
     let shared = shared(rt)?;
     let (machine, trace) = recorded(rt, &shared, order)?;
     let steps = u32::try_from(order.len())?;
-    let end = always(&shared, &trace, Ok(Ending::Complete { steps }))?;
-    assert_eq!(end, contents(&machine));
+    let end = always(rt, &shared, &trace, Ok(Ending::Complete { steps }))?;
+    assert_eq!(rt; end, contents(&machine));
     Ok(end.values[1])
 }
 

@@ -6,7 +6,7 @@ ghost use Rattle.replay.specs.Replays.{shown};
 use replay::faults::Fault;
 use replay::{Ending, Permit, Replay, Returned};
 use schedule::Turn;
-use std::test::*;
+use std::test::Fail;
 
 // Hands back the permit that is out.
 fn give_back(replay: &mut Replay<'_>, permit: Permit)

@@ -4,12 +4,13 @@ use crate::replays::always;
 use refusal::Object;
 use replay::Ending;
 use replay::faults::Fault;
-use std::test::*;
+use std::test::Fail;
 
 // The trace of the run 3, 1, 3, 3, 3, 2: variable 0 ends at 1, and thread 2 reads 1.
 #[test]
 fn complete(rt: HostRuntime) -> Result<(), Fail> {
     let end = always(
+        &rt,
         &bump(&rt)?,
         &bump_trace(&rt, &[1, 1, 4])?,
         Ok(Ending::Complete { steps: 6 }),
@@ -28,7 +29,7 @@ fn one_step_too_many(rt: HostRuntime) -> Result<(), Fail> {
         object: None,
         steps: 6,
     };
-    let end = always(&bump(&rt)?, &bump_trace(&rt, &[1, 1, 5])?, Err(fault))?;
+    let end = always(&rt, &bump(&rt)?, &bump_trace(&rt, &[1, 1, 5])?, Err(fault))?;
     assert_eq!(rt; end.values[0], 1);
     Ok(())
 }
@@ -40,7 +41,7 @@ fn one_step_too_few(rt: HostRuntime) -> Result<(), Fail> {
         object: Object::Variable(0),
         steps: 5,
     };
-    let end = always(&bump(&rt)?, &bump_trace(&rt, &[1, 0, 4])?, Err(fault))?;
+    let end = always(&rt, &bump(&rt)?, &bump_trace(&rt, &[1, 0, 4])?, Err(fault))?;
     assert_eq!(rt; end.registers, [0, 0, 1, 0, 0, 0, 0, 0]);
     Ok(())
 }
@@ -49,6 +50,7 @@ fn one_step_too_few(rt: HostRuntime) -> Result<(), Fail> {
 #[test]
 fn an_early_read(rt: HostRuntime) -> Result<(), Fail> {
     let end = always(
+        &rt,
         &bump(&rt)?,
         &early_trace(&rt)?,
         Ok(Ending::Complete { steps: 6 }),

@@ -9,7 +9,7 @@ use trace_file::write::write;
 // Makes the trace of the run, writes it, reads it back, and shows two files refused.
 pub(crate) fn keep(rt: &HostRuntime) -> anyhow::Result<()> {
     println!(rt; "The run's trace is made.")?;
-    let Some(trace) = worked(rt, 4)? else {
+    let Some(trace) = worked(rt)? else {
         return Err(anyhow!("the worked trace is not sound"));
     };
     say(rt, &trace)?;
@@ -31,8 +31,8 @@ pub(crate) fn keep(rt: &HostRuntime) -> anyhow::Result<()> {
     Ok(())
 }
 
-// Threads 3 and 1 read variable 0, 3 wrote it, and 2 read what it wrote; the steps that thread 3 made are given.
-pub(crate) fn worked(rt: &HostRuntime, third: u16) -> anyhow::Result<Option<Trace>> {
+// Threads 3 and 1 read variable 0, 3 wrote it, and 2 read what it wrote.
+fn worked(rt: &HostRuntime) -> anyhow::Result<Option<Trace>> {
     let Some(mut draft) = Draft::new(Room::reserve(rt.alloc())?, 3) else {
         return Ok(None);
     };
@@ -57,7 +57,7 @@ pub(crate) fn worked(rt: &HostRuntime, third: u16) -> anyhow::Result<Option<Trac
     ] {
         let _ = draft.add(0, event);
     }
-    for (thread, count) in [(1, 1), (2, 1), (3, third)] {
+    for (thread, count) in [(1, 1), (2, 1), (3, 4)] {
         let _ = draft.set_count(thread, count);
     }
     Ok(draft.finish().ok())

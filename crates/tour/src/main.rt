@@ -2,20 +2,19 @@
 #![tactic(auto)]
 
 mod keeping;
-mod replaying;
 
 use machine::{Item, Machine};
 use program::{Instruction, Program, Room};
 
 // Threads 1 and 2 read variable 0; thread 3 reads it, adds 1 and writes it back.
-pub(crate) const WORKED: [u8; 44] = [
+const WORKED: [u8; 44] = [
     3, 0, 0, 0, 0, 0, 0, 0, 0, 1, 1, 1, 1, 1, 1, 1, 1, // threads, starts, limits
     1, 6, 0, 0, 0, // thread 1
     1, 6, 0, 0, 0, // thread 2
     4, 6, 0, 0, 0, 1, 1, 1, 0, 2, 0, 1, 0, 7, 0, 0, 0, // thread 3
 ];
 
-pub(crate) const ORDER: [u8; 6] = [3, 1, 3, 3, 3, 2];
+const ORDER: [u8; 6] = [3, 1, 3, 3, 3, 2];
 
 fn main(rt: HostRuntime) -> anyhow::Result<()> {
     tour(&rt)
@@ -34,8 +33,7 @@ fn tour(rt: &HostRuntime) -> anyhow::Result<()> {
         }
     }
     refuse(rt)?;
-    keeping::keep(rt)?;
-    replaying::replays(rt)
+    keeping::keep(rt)
 }
 
 // What was read.
@@ -65,10 +63,6 @@ fn run(rt: &HostRuntime, program: &Program) -> anyhow::Result<()> {
             _ => println!(rt; "  Thread {thread} is not able.")?,
         }
     }
-    variables(rt, &machine)
-}
-
-pub(crate) fn variables(rt: &HostRuntime, machine: &Machine) -> anyhow::Result<()> {
     println!(rt; "The variables that are not 0:")?;
     for v in 0..16 {
         match machine.variable(v) {

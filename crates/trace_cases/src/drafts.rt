@@ -1,7 +1,8 @@
 // Events, and what becomes of a trace that is filled with them.
 use machine::Operation;
 use refusal::Object;
-use std::test::*;
+use std::process::Abort;
+use std::test::Fail;
 use trace::access::place_of;
 use trace::draft::Draft;
 use trace::faults::Fault;
@@ -23,38 +24,41 @@ fn sync(thread: u8, operation: Operation) -> Event {
     Event::Sync { thread, operation }
 }
 
-fn draft(rt: &HostRuntime, threads: u8) -> Result<Draft, Fail> {
+fn draft(rt: &impl AllocGlobal, threads: u8) -> Result<Draft, Fail> {
     Ok(Draft::new(Room::reserve(rt.alloc())?, threads).ok_or("no draft")?)
 }
 
 // A trace of three threads with these events of variable 3.
-fn of_variable(rt: &HostRuntime, events: &[Event]) -> Result<Result<Trace, Fault>, Fail> {
+fn of_variable(
+    rt: &(impl Abort + AllocGlobal),
+    events: &[Event],
+) -> Result<Result<Trace, Fault>, Fail> {
     let mut draft = draft(rt, 3)?;
     for event in events {
-        assert!(draft.add(3, *event));
+        assert!(rt; draft.add(3, *event));
     }
     Ok(draft.finish())
 }
 
-fn accepted(rt: &HostRuntime, events: &[Event]) -> Result<(), Fail> {
+fn accepted(rt: &(impl Abort + AllocGlobal), events: &[Event]) -> Result<(), Fail> {
     let trace = of_variable(rt, events)??;
     let sequence = trace.sequence(Object::Variable(3));
-    assert!(sequence.len() == events.len());
+    assert!(rt; sequence.len() == events.len());
     for (k, event) in events.iter().enumerate() {
-        assert!(k < sequence.len() && sequence[k] == *event);
+        assert!(rt; k < sequence.len() && sequence[k] == *event);
     }
     Ok(())
 }
 
 // The number of the first wrong event.
-fn wrong(rt: &HostRuntime, events: &[Event], first: usize) -> Result<(), Fail> {
+fn wrong(rt: &(impl Abort + AllocGlobal), events: &[Event], first: usize) -> Result<(), Fail> {
     match of_variable(rt, events)? {
         Ok(_) => {
-            assert!(false, "an unsound trace was made");
+            assert!(rt; false, "an unsound trace was made");
             Ok(())
         },
         Err(fault) => {
-            assert!(fault == Fault::Unsound(Object::Variable(3), first));
+            assert!(rt; fault == Fault::Unsound(Object::Variable(3), first));
             Ok(())
         },
     }
@@ -76,7 +80,8 @@ fn wrong_versions(rt: HostRuntime) -> Result<(), Fail> {
     wrong(&rt, &[read(1, 1)], 0)?;
     wrong(&rt, &[write(1, 1, 0)], 0)?;
     wrong(&rt, &[write(1, 0, 0), write(1, 0, 0)], 1)?;
-    wrong(&rt, &[write(1, 0, 0), read(1, 0)], 0).note("a late read counts for the total")?;
+    // a late read counts for the total
+    wrong(&rt, &[write(1, 0, 0), read(1, 0)], 0)?;
     wrong(&rt, &[write(1, 0, 1), read(1, 0)], 1)?;
     wrong(&rt, &[read(2, 0), write(1, 0, 2), read(3, 0)], 2)
 }
@@ -86,12 +91,12 @@ fn wrong_totals(rt: HostRuntime) -> Result<(), Fail> {
     wrong(&rt, &[write(1, 0, 1)], 0)?;
     wrong(&rt, &[read(1, 0), write(1, 0, 0)], 1)?;
     wrong(&rt, &[read(1, 0), read(1, 0), write(1, 0, 1)], 2)?;
+    // reads of other versions do not count
     wrong(
         &rt,
         &[read(1, 0), write(1, 0, 1), read(2, 1), write(2, 1, 2)],
         3,
     )
-    .note("reads of other versions do not count")
 }
 
 // The first wrong object is named, and too many events come before a wrong one.

@@ -1,6 +1,7 @@
 // Trace files, whole and damaged, and what the reader and the writer make of each.
 use refusal::Object;
-use std::test::*;
+use std::process::Abort;
+use std::test::Fail;
 use trace::draft::Draft;
 use trace::{Event, Room, Trace};
 use trace_file::read::read;
@@ -24,7 +25,7 @@ fn at(number: u8, place: usize) -> Outcome {
 }
 
 // The worked trace: variable 0 was read by 3 and 1, written by 3, and read by 2.
-fn worked(rt: &HostRuntime) -> Result<Trace, Fail> {
+fn worked(rt: &(impl Abort + AllocGlobal)) -> Result<Trace, Fail> {
     let mut draft = Draft::new(Room::reserve(rt.alloc())?, 3).ok_or("no draft")?;
     for event in [
         Event::Read {
@@ -45,15 +46,15 @@ fn worked(rt: &HostRuntime) -> Result<Trace, Fail> {
             version: 1,
         },
     ] {
-        assert!(draft.add(0, event));
+        assert!(rt; draft.add(0, event));
     }
-    assert!(draft.set_count(1, 1) && draft.set_count(2, 1) && draft.set_count(3, 4));
+    assert!(rt; draft.set_count(1, 1) && draft.set_count(2, 1) && draft.set_count(3, 4));
     Ok(draft.finish()?)
 }
 
-fn worked_file(rt: &HostRuntime) -> Result<[u8; 160], Fail> {
+fn worked_file(rt: &(impl Abort + AllocGlobal)) -> Result<[u8; 160], Fail> {
     let mut buffer = [0; 160];
-    assert_eq!(write(&worked(rt)?, &mut buffer)?, 160);
+    assert_eq!(rt; write(&worked(rt)?, &mut buffer)?, 160);
     Ok(buffer)
 }
 

@@ -1,6 +1,5 @@
-// The third part of the tour: the trace replayed, under schedulers and by permits.
-use crate::keeping::worked;
-use crate::{ORDER, WORKED, variables};
+// The tour's trace replayed, under schedulers and by permits.
+use crate::{ORDER, WORKED, variables, worked};
 use anyhow::anyhow;
 use machine::Machine;
 use program::{Program, Room};
