@@ -1,5 +1,5 @@
 -- What the machine's arrays and a program's codes mean.
-use Rattle.std.specs.Prelude.{◌≡◌, ℕ, suc, ◌-◌, ◌<◌, ◌≤◌, Bool, cond, List, ◌∷◌, length, get_or, Some, None, Option as Answer, ◌==◌, slice_index, slice_index_or, slice_set}
+use Rattle.std.specs.Prelude.{◌≡◌, ℕ, suc, ◌-◌, ◌<◌, ◌≤◌, Bool, cond, List, ◌∷◌, length, Some, None, Option as Answer, ◌==◌, slice_index, slice_index_or, slice_set}
 use Rattle.std.proofs.Math.Option.{Option, none, some}
 use Rattle.machine.specs.declared.Operation.TheVariants.{P, V, Lock, Unlock}
 use Rattle.machine.specs.declared.Item.{Item}
@@ -73,7 +73,7 @@ performed n c m =
 pub record Standing (m : Machine) (t : ℕ) (i : Instruction) : Type 0 where
   pub one : 1 ≤ t
   pub eight : t ≤ 8
-  pub place : (get_or m.threads (t - 1) idle).place < 128
+  pub place : (slice_index_or m.threads (t - 1) idle).place < 128
   pub usable : Usable i
 
 -- how long the arrays are

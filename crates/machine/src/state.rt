@@ -1,5 +1,5 @@
 // The machine at its start, and what it holds.
-ghost use Rattle.std.specs.Prelude.{◌≡◌, ◌&&◌, leb, if◌then◌else◌, Some, None, nat_le, nat_lt};
+ghost use Rattle.std.specs.Prelude.{◌≡◌, ◌&&◌, if◌then◌else◌, Some, None, nat_le, nat_lt};
 ghost use Rattle.machine.specs.Machine.{mutex, semaphore, start, total_steps, variable};
 ghost use Rattle.machine.specs.Rules.{RunLaws};
 ghost use Rattle.machine.specs.View.{code_of, view};
@@ -34,7 +34,7 @@ impl Machine {
 
     // The thread, from 1 to 8.
     pub fn thread(&self, thread: u8) -> Option<Thread>
-        ensures { result ≡ (if leb 1 thread && nat_le thread 8 then Some ((view self.now).thread thread) else None) }
+        ensures { result ≡ (if nat_le 1 thread && nat_le thread 8 then Some ((view self.now).thread thread) else None) }
     {
         if thread < 1 {
             return None;

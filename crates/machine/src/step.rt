@@ -35,14 +35,14 @@ fn chosen(is: bool, value: u32, held: u32) -> u32
 }
 
 impl Item {
-    // The variable after one more read.
-    fn read(self) -> Item
-        requires { self.made < 65535 }
-        ensures { result ≡ record { value = self.value; version = self.version; made = suc self.made } }
+    // The variable x after one more read.
+    fn read(x: Item) -> Item
+        requires { x.made < 65535 }
+        ensures { result ≡ record { value = x.value; version = x.version; made = suc x.made } }
     {
         Item {
-            made: self.made + 1,
-            ..self
+            made: x.made + 1,
+            ..x
         }
     }
 
@@ -136,7 +136,7 @@ impl Machine {
             6 => {
                 let x = self.variables[b];
                 registers = with_register(registers, a, x.value);
-                self.variables[b] = x.read();
+                self.variables[b] = Item::read(x);
             }
             7 if self.variables[b].version >= TOP => return false,
             7 => self.variables[b] = self.variables[b].written(registers[a]),
