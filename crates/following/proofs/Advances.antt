@@ -16,7 +16,7 @@ use Rattle.trace.specs.declared.Event.{Event}
 use Rattle.trace.specs.declared.Trace.{Trace}
 use Rattle.trace.specs.declared.next.Access.{Access}
 use Rattle.trace.specs.Accesses.{listed}
-use Rattle.trace.specs.History.{event, logged_at}
+use Rattle.trace.specs.History.{logged_at}
 use Rattle.trace.specs.Traces.{history, named, parts, position}
 use Rattle.following.specs.declared.stage.Stage.{Stage}
 use Rattle.following.specs.Following.{Progress, Permitted, Turn, due, left_at, advance}

@@ -5,7 +5,7 @@ use Rattle.std.proofs.lemmas.Bool.{and_parts}
 use Rattle.machine.specs.declared.Machine.{Machine}
 use Rattle.program.specs.declared.Instruction.{Instruction}
 use Rattle.program.specs.declared.Program.{Program}
-use Rattle.machine.specs.Machine.{Code, Able, able, able_at, object, here, free, rises, perform, step, step_at, steps, steps_at}
+use Rattle.machine.specs.Machine.{Code, Able, able, able_at, object, here, free, rises, perform, step, step_at, steps_at}
 use Rattle.machine.specs.Rules.{Steps}
 use Rattle.program.specs.Programs.{fetched}
 use Rattle.machine.specs.View.{Sized, Standing, Stepped, code_of, each_of, item_of, meaning, means, performed, view}

@@ -1,5 +1,5 @@
 -- The bytes of a program, and that its reader accepts exactly those.
-use Rattle.std.specs.Prelude.{◌≡◌, ℕ, ◌/◌, ◌%◌, List, [], ◌∷◌, ◌++◌, length, drop, Ok, Err}
+use Rattle.std.specs.Prelude.{◌≡◌, ℕ, ◌/◌, ◌%◌, List, [], ◌∷◌, ◌++◌, length, drop, Ok}
 use Rattle.std.specs.List.{flat_map}
 use Rattle.program.specs.declared.Instruction.{Instruction}
 use Rattle.program.specs.Form.{Parts, WellFormed}

@@ -1,7 +1,6 @@
 use Rattle.std.proofs.Common.{◌≡◌, Bool, true, cond, None, ap, ◌∙◌}
 use Rattle.following.specs.Following.{advance}
 use Rattle.following.specs.Followers.{seen}
-use Rattle.following.specs.Followers as followers
 use Rattle.replay.specs.Replays.{shown, program_of, trace_of}
 use Rattle.replay.proofs.Called.{one_step}
 use Rattle.replay.proofs.Replay.step.Goals as goal

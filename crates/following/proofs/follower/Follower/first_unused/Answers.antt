@@ -4,7 +4,7 @@ use Rattle.trace.specs.Drafts.{name_at}
 use Rattle.trace.specs.Traces.{named}
 use Rattle.following.specs.Ends.{first_unused, name_found, some_event}
 use Rattle.following.specs.Followers.{seen}
-use Rattle.following.specs.View.{left, rest, row}
+use Rattle.following.specs.View.{rest, row}
 use Rattle.following.specs.declared.follower.Follower.{Follower}
 use Rattle.following.proofs.Firsts.{passed, found, none_left}
 use Rattle.following.proofs.Held.{held}
