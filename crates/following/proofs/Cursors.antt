@@ -65,9 +65,9 @@ past i c k [] zero e h f w = grind arith
 past i c k [] (suc n) e h f w = grind arith
 past i c k (x ∷ q) zero e h f w =
     let same : x ≡ e = cc in
-    let who-x : who x ≡ i = ap who same ∙ w in
+    let who_x : who x ≡ i = ap who same ∙ w in
     let rest = before i (suc (c i)) c (suc k) q (omega arith) (omega arith) in
-    let v : c (who x) ≡ c i = ap c who-x in
+    let v : c (who x) ≡ c i = ap c who_x in
     grind (arith, nat_tests)
 past i c k (x ∷ q) (suc n) e h f w =
     let again = past i c (suc k) q n e (omega arith) f w in

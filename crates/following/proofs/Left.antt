@@ -57,7 +57,7 @@ module _ (t : Trace) (u : Used) (size : Sized u) (settled : SettledIn t u) (k : 
           let most : who x ≤ 8 = grind (arith, nat_tests) in
           let past : length q ≤ cursor cs (who x) = subst (λ (n : ℕ). length q ≤ n) (sym (cursor_at cs (who x) one)) (h (who x - 1) (omega (arith, size.each k lt))) in
           let found : first_of (who x) (drop (cursor cs (who x)) q) ≡ some x = sym (first_unused (who x) (cursor cs) q) ∙ ap (first_of (who x)) e ∙ own_first x l in
-          let none-there : first_of (who x) (drop (cursor cs (who x)) q) ≡ none = ap (first_of (who x)) (drop_all (cursor cs (who x)) q past) in
+          let none_there : first_of (who x) (drop (cursor cs (who x)) q) ≡ none = ap (first_of (who x)) (drop_all (cursor cs (who x)) q past) in
           no_clash (cc)
 
   -- a cursor before the end is at an unused event

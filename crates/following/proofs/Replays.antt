@@ -149,8 +149,8 @@ module _ (p : Code) (t : History) where
       let logs = put_cross same_number f i j (f i ++ got_by i r) (f j ++ got_by j r) (put same_number f j (f j ++ got_by j r) i ++ got_by i (advance p j r)) (put same_number f i (f i ++ got_by i r) j ++ got_by j (advance p i r)) apart
       (λ k. put_other same_number f j (f j ++ got_by j r) i apart k ++ same_got j i r other a.0 b.1 a.1 k)
       (λ k. put_other same_number f i (f i ++ got_by i r) j other k ++ same_got i j r apart a.0 a.1 b.1 k) in
-      let still-may = subst (λ (u : Progress). Permitted p t u j) (sym (moved p i a.1.able.c r a.1.able.is)) (kept i j r apart a.0 a.1 b.1) in
-      ((good_step i r a.0 a.1, still-may), λ k. record { progress = swapped i j r apart a.0 a.1 b.1 k; log = logs k })
+      let still_may = subst (λ (u : Progress). Permitted p t u j) (sym (moved p i a.1.able.c r a.1.able.is)) (kept i j r apart a.0 a.1 b.1) in
+      ((good_step i r a.0 a.1, still_may), λ k. record { progress = swapped i j r apart a.0 a.1 b.1 k; log = logs k })
 
   -- steps that are permitted are so with the log too
   good_word : (s : Logged) (us : List ℕ) → Good s.progress → Steps s.progress us → Word go_on May s us

@@ -3,7 +3,7 @@ use Rattle.std.specs.Prelude.{◌≡◌, ℕ, ◌+◌, ◌-◌, ◌<◌, ◌≤�
 use Rattle.std.proofs.Math.Option.{Option, none, some}
 use Rattle.machine.specs.declared.Item.{Item}
 use Rattle.machine.specs.Machine.{Object, variable}
-use Rattle.machine.specs.View.{view as machine-view}
+use Rattle.machine.specs.View.{view as machine_view}
 use Rattle.trace.specs.declared.Event.{Event}
 use Rattle.trace.specs.declared.Trace.{Trace}
 use Rattle.trace.specs.declared.next.Access.{Access}
@@ -31,7 +31,7 @@ left t u o = rest u (position o) (row t (position o))
 
 -- how far the arrays say that a replay has come
 abbrev pub progress : Trace → Stage → Progress
-progress t s = record { machine = machine-view s.machine; left = left t s.used }
+progress t s = record { machine = machine_view s.machine; left = left t s.used }
 
 -- where thread i's next event stands in the sequence at place k
 abbrev pub next_at : Used → ℕ → ℕ → ℕ
@@ -63,7 +63,7 @@ SettledIn t u = (k i : ℕ) → k < 16 → 1 ≤ i → i ≤ 8 → Settled i (cu
 pub record Kept (t : Trace) (s : Stage) : Type 0 where
   pub sized : Sized s.used
   pub settled : SettledIn t s.used
-  pub room : (v : ℕ) → Roomy ((machine-view s.machine).item (variable v)) (left t s.used (variable v)) (row t (position (variable v)))
+  pub room : (v : ℕ) → Roomy ((machine_view s.machine).item (variable v)) (left t s.used (variable v)) (row t (position (variable v)))
 
 -- what is used once the event of thread i's access is, if it has one
 abbrev pub spent : Trace → ℕ → Answer Access → Used → Used

@@ -29,11 +29,11 @@ pub data Object : Type 0 where
   variable : ℕ → Object
   semaphore : ℕ → Object
   mutex : ℕ → Object
-  deriving Discrete as same-object-by
+  deriving Discrete as same_object_by
 
 -- whether two objects are the same
 abbrev pub same_object : Discrete Object
-same_object = same-object-by same_number
+same_object = same_object_by same_number
 
 -- the object of an instruction
 abbrev pub object : Instr → Object

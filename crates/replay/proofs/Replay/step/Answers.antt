@@ -10,8 +10,8 @@ unfolding shown
 returns c =
     let r = c.args.self.now in
     let n = seen c.advance.new.self in
-    let yes-it : c.advance.result ≡ true = c.advance.ensures.answer ∙ c.requires in
-    let on : n ≡ advance (program_of r) c.args.thread (seen r.follower) = c.advance.ensures.after ∙ ap (λ (b : Bool). cond b (advance (program_of r) c.args.thread (seen r.follower)) (seen r.follower)) yes-it in
+    let yes_it : c.advance.result ≡ true = c.advance.ensures.answer ∙ c.requires in
+    let on : n ≡ advance (program_of r) c.args.thread (seen r.follower) = c.advance.ensures.after ∙ ap (λ (b : Bool). cond b (advance (program_of r) c.args.thread (seen r.follower)) (seen r.follower)) yes_it in
     record {
       after = λ j. record { progress = on j; steps = one_step r.follower.program.now (trace_of r) (seen r.follower) n c.args.thread c.requires on j; out = None };
       parts = c.advance.ensures.parts;

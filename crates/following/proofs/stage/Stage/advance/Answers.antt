@@ -26,12 +26,12 @@ returns c =
     let i = c.args.thread in
     let kept = c.requires.kept in
     let may = permitted_is (code_of p) (history (parts t)) (progress t s) i c.requires.permitted in
-    let yes-it : c.step.result ≡ true = c.step.ensures.answer ∙ can_step p t s i kept may in
+    let yes_it : c.step.result ≡ true = c.step.ensures.answer ∙ can_step p t s i kept may in
     let n = c.step.new.self in
-    let made : view n ≡ step (code_of p) i (view s.machine) = subst (λ (b : Bool). cond b (view n ≡ step (code_of p) i (view s.machine)) (n ≡ s.machine)) yes-it c.step.ensures.after in
+    let made : view n ≡ step (code_of p) i (view s.machine) = subst (λ (b : Bool). cond b (view n ≡ step (code_of p) i (view s.machine)) (n ≡ s.machine)) yes_it c.step.ensures.after in
     let at : Used → Stage = λ u. record { machine = n; used = u } in
     record {
-      made = yes-it;
+      made = yes_it;
       after = subst (λ (u : Used). progress t (at u) ≡ advance (code_of p) i (progress t s)) (sym c.spend.ensures) (advances p t s i kept may c.next-access.result c.next-access.ensures n made);
       kept = subst (λ (u : Used). Kept t (at u)) (sym c.spend.ensures) (kept_after p t s i kept may c.next-access.result c.next-access.ensures n made);
     }
