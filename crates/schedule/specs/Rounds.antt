@@ -6,7 +6,7 @@ use Rattle.std.proofs.lemmas.Bool.{false≢true, both_ways, cases_Bool, cases_lt
 use Rattle.schedule.specs.declared.ThreadSet.{ThreadSet}
 use Rattle.schedule.specs.declared.turn.Turn.{Turn}
 use Rattle.schedule.specs.Threads.{Sized, first_above, has, threads}
-use Rattle.schedule.specs.Turns.{Goes_on, Stands, TurnLaws, distance, in_turn, next_after, turn_next, turn_rule, turn_start, turn_step}
+use Rattle.schedule.specs.Turns.{GoesOn, Stands, TurnLaws, distance, in_turn, next_after, turn_next, turn_rule, turn_start, turn_step}
 use Rattle.schedule.specs.Picks.{above_is, after_has, some_above}
 
 -- a set has threads 1 to 8 alone
@@ -52,10 +52,10 @@ after_nearest last set h z t e =
     (above_is last set))
 
 module _ (s : Turn) (set : ThreadSet) where
-  same : Goes_on s set → turn_rule s set ≡ s.last
+  same : GoesOn s set → turn_rule s set ≡ s.last
   same g = cond-true _ _ _ (and_from _ _ (lt-ltb _ _ g.left) g.offered)
 
-  other : (Goes_on s set → ⊥) → turn_rule s set ≡ next_after s.last set
+  other : (GoesOn s set → ⊥) → turn_rule s set ≡ next_after s.last set
   other n =
       ⊎_elim
       (λ e. let b = and_parts (in_turn s) (has set s.last) e in absurd (n (record { offered = b.1; left = ltb-true _ _ b.0 })))
@@ -66,12 +66,12 @@ module _ (s : Turn) (set : ThreadSet) where
   picks t e =
       cond_both (in_turn s && has set s.last) _ _ (λ x. has set x ≡ true) (λ b. (and_parts _ _ b).1) (λ b. after_has s.last set t e)
 
-  nearest : Stands s → Sized set → (Goes_on s set → ⊥) → (t : ℕ) → has set t ≡ true → distance s.last (turn_rule s set) ≤ distance s.last t
+  nearest : Stands s → Sized set → (GoesOn s set → ⊥) → (t : ℕ) → has set t ≡ true → distance s.last (turn_rule s set) ≤ distance s.last t
   nearest w z n t e =
       let P : ℕ → Type 0 = λ r. distance s.last r ≤ distance s.last t in
       subst P (sym (other n)) (after_nearest s.last set w.eight z t e)
 
-  gives_way : Stands s → Sized set → (Goes_on s set → ⊥) → (t : ℕ) → t ≢ s.last → has set t ≡ true → turn_rule s set ≢ s.last
+  gives_way : Stands s → Sized set → (GoesOn s set → ⊥) → (t : ℕ) → t ≢ s.last → has set t ≡ true → turn_rule s set ≢ s.last
   gives_way w z n t d e is =
       let near = nearest w z n t e in
       let at = ap (distance s.last) is in

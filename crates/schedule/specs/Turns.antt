@@ -43,7 +43,7 @@ pub record Stands (s : Turn) : Type 0 where
   pub bounded : s.streak ≤ s.quantum
 
 -- the last thread may go on: it is offered, and has steps left
-pub record Goes_on (s : Turn) (set : ThreadSet) : Type 0 where
+pub record GoesOn (s : Turn) (set : ThreadSet) : Type 0 where
   pub offered : has set s.last ≡ true
   pub left : s.streak < s.quantum
 
@@ -55,8 +55,8 @@ pub record TurnLaws : Type 0 where
   -- where a thread is offered, one of those offered is named
   pub picks : (s : Turn) (set : ThreadSet) (t : ℕ) → has set t ≡ true → has set (turn_rule s set) ≡ true
   -- the last thread is named where it may go on
-  pub same : (s : Turn) (set : ThreadSet) → Goes_on s set → turn_rule s set ≡ s.last
+  pub same : (s : Turn) (set : ThreadSet) → GoesOn s set → turn_rule s set ≡ s.last
   -- where it may not, the first thread offered that is met in circular order: none offered is nearer
-  pub nearest : (s : Turn) (set : ThreadSet) → Stands s → Sized set → (Goes_on s set → ⊥) → (t : ℕ) → has set t ≡ true → distance s.last (turn_rule s set) ≤ distance s.last t
+  pub nearest : (s : Turn) (set : ThreadSet) → Stands s → Sized set → (GoesOn s set → ⊥) → (t : ℕ) → has set t ≡ true → distance s.last (turn_rule s set) ≤ distance s.last t
   -- so a thread whose turn is over gives way to any other
-  pub gives_way : (s : Turn) (set : ThreadSet) → Stands s → Sized set → (Goes_on s set → ⊥) → (t : ℕ) → t ≢ s.last → has set t ≡ true → turn_rule s set ≢ s.last
+  pub gives_way : (s : Turn) (set : ThreadSet) → Stands s → Sized set → (GoesOn s set → ⊥) → (t : ℕ) → t ≢ s.last → has set t ≡ true → turn_rule s set ≢ s.last

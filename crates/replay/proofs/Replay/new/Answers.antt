@@ -9,7 +9,7 @@ use Rattle.replay.proofs.Worked.{worked}
 use Rattle.replay.proofs.Replay.new.Goals as goal
 
 pub returns-then-threads : goal.returns-then-threads
-returns-then-threads c = record { value = (λ e. c.if-threads.true (c.threads.ensures ∙ e ∙ sym c.threads-2.ensures), refl); promise = replay_promise; worked = worked }
+returns-then-threads c = record { value = (λ e. c.if-threads.true (cc), refl); promise = replay_promise; worked = worked }
 
 pub returns : goal.returns
 unfolding shown

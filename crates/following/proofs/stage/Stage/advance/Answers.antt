@@ -1,4 +1,4 @@
-use Rattle.std.proofs.Common.{◌≡◌, Bool, true, cond, sym, ◌∙◌, subst}
+use Rattle.std.proofs.Common.{◌≡◌, Bool, true, cond, sym, ◌∙◌, subst, rules}
 use Rattle.machine.specs.Machine.{step}
 use Rattle.machine.specs.View.{code_of, view}
 use Rattle.trace.specs.Traces.{history, parts}
@@ -16,7 +16,7 @@ spend-requires c =
     let t = c.args.trace.now in
     let s = c.args.self.now in
     let may = permitted_is (code_of p) (history (parts t)) (progress t s) c.args.thread c.requires.permitted in
-    record { sized = c.requires.kept.sized; due = has_due p t s c.args.thread c.requires.kept may c.next-access.result c.next-access.ensures }
+    record { sized = c.requires.kept.sized; due = search (rules, has_due p t s c.args.thread c.requires.kept may c.next-access.result c.next-access.ensures) }
 
 pub returns : goal.returns
 returns c =
