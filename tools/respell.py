@@ -14,7 +14,6 @@ import sys
 
 WORD = r"[^\s(){}\[\];:,.@\"`«»]+"
 SIGNATURE = re.compile(r"^(\s*)(?:(?:abbrev|unfoldable|pub|record|data|unfolding)\s+)*(" + WORD + r")(?:\s+[({][^=]*?)?\s*:(?:\s|$)")
-FIELD = re.compile(r"[{;]\s*(" + WORD + r")\s*:\s")
 GENERATED = re.compile(r"^(Answers|Invariants|Proof|Choices)\.antt$")
 
 
