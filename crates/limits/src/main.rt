@@ -3,6 +3,7 @@
 
 use anyhow::anyhow;
 use program::{Program, Room};
+use refusal::Refusal;
 use trace::draft::Draft;
 use trace::{Event, Room as TraceRoom};
 
@@ -30,16 +31,11 @@ fn limits(rt: &HostRuntime) -> anyhow::Result<()> {
 fn program(rt: &HostRuntime, threads: u8, n: u8) -> anyhow::Result<()> {
     let mut bytes = Vec::new(rt.alloc());
     bytes.push(threads)?;
-    for byte in [0, 1] {
-        for _ in 0..8 {
-            bytes.push(byte)?;
-        }
-    }
+    bytes.extend_from_slice(&[0; 8])?;
+    bytes.extend_from_slice(&[1; 8])?;
     bytes.push(n)?;
     for _ in 0..n {
-        for byte in [1, 0, 0, 0] {
-            bytes.push(byte)?;
-        }
+        bytes.extend_from_slice(&[1, 0, 0, 0])?;
     }
     for _ in 1..threads {
         bytes.push(0)?;
@@ -49,7 +45,7 @@ fn program(rt: &HostRuntime, threads: u8, n: u8) -> anyhow::Result<()> {
             "accepted, threads {}, bytes {taken}",
             program.threads()
         )?,
-        Err(fault) => println!(rt; "{}", fault.refusal())?,
+        Err(fault) => println!(rt; "{}", Refusal::from(fault))?,
     }
     Ok(())
 }
@@ -70,7 +66,7 @@ fn trace(rt: &HostRuntime, n: u16) -> anyhow::Result<()> {
     }
     match draft.finish() {
         Ok(trace) => println!(rt; "accepted, events {}", trace.sequence_at(0).len())?,
-        Err(fault) => println!(rt; "{}", fault.refusal())?,
+        Err(fault) => println!(rt; "{}", Refusal::from(fault))?,
     }
     Ok(())
 }

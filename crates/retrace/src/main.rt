@@ -2,7 +2,7 @@
 #![tactic(auto)]
 
 use anyhow::anyhow;
-use machine::{Item, Machine};
+use machine::Machine;
 use program::{Program, Room};
 use refusal::Refusal;
 use replay::{Ending, Replay};
@@ -13,54 +13,39 @@ use trace_file::read::read;
 
 // Ends with status 0 where the replay is complete, and with 1 where a refusal was printed or the input failed.
 fn main(rt: HostRuntime) -> anyhow::Result<()> {
-    if retrace(&rt)? {
-        return Ok(());
+    let mut input = Vec::new(rt.alloc());
+    rt.stdin().read_to_end(&mut input)?;
+    let room = Room::reserve(rt.alloc())?;
+    let trace_room = TraceRoom::reserve(rt.alloc())?;
+    match replayed(room, trace_room, input.as_slice()) {
+        Ok((Ending::Complete { steps }, machine)) => {
+            println!(rt; "complete {steps}")?;
+            return variables(&rt, &machine);
+        }
+        Ok((Ending::Spent { steps }, _)) => println!(rt; "spent {steps}")?,
+        Err(refusal) => println!(rt; "{refusal}")?,
     }
     Err(anyhow!("refused"))
 }
 
-// Whether the replay is complete.
-fn retrace(rt: &HostRuntime) -> anyhow::Result<bool> {
-    let mut input = Vec::new(rt.alloc());
-    rt.stdin().read_to_end(&mut input)?;
-    let (program, taken) = match Program::read(Room::reserve(rt.alloc())?, input.as_slice()) {
-        Ok(found) => found,
-        Err(fault) => return refuse(rt, fault.refusal()),
-    };
-    let file = input.as_slice().get(taken..).unwrap_or(&[]);
-    let trace = match read(TraceRoom::reserve(rt.alloc())?, file) {
-        Ok(trace) => trace,
-        Err(fault) => return refuse(rt, fault.refusal()),
-    };
-    let mut replay = match Replay::new(&program, &trace) {
-        Ok(replay) => replay,
-        Err(fault) => return refuse(rt, fault.refusal()),
-    };
-    match replay.run(u32::MAX, &mut Turn::new(1)) {
-        Ok(Ending::Complete { steps }) => {
-            println!(rt; "complete {steps}")?;
-            variables(rt, replay.machine())?;
-            Ok(true)
-        }
-        Ok(Ending::Spent { steps }) => {
-            println!(rt; "spent {steps}")?;
-            Ok(false)
-        }
-        Err(fault) => refuse(rt, fault.refusal()),
-    }
-}
-
-fn refuse(rt: &HostRuntime, refusal: Refusal) -> anyhow::Result<bool> {
-    println!(rt; "{refusal}")?;
-    Ok(false)
+// How the replay of a program's bytes and then a trace file's ends, and its machine then.
+fn replayed(
+    room: Room,
+    trace_room: TraceRoom,
+    input: &[u8],
+) -> Result<(Ending, Machine), Refusal> {
+    let (program, taken) = Program::read(room, input)?;
+    let trace = read(trace_room, input.get(taken..).unwrap_or(&[]))?;
+    let mut replay = Replay::new(&program, &trace)?;
+    let ending = replay.run(u32::MAX, &mut Turn::new(1))?;
+    Ok((ending, *replay.machine()))
 }
 
 // The variables that are not 0.
 fn variables(rt: &HostRuntime, machine: &Machine) -> anyhow::Result<()> {
-    for v in 0..16 {
-        match machine.variable(v) {
-            Some(Item { value, .. }) if value != 0 => println!(rt; "v{v} {value}")?,
-            _ => {}
+    for (v, item) in machine.variables().iter().enumerate() {
+        if item.value != 0 {
+            println!(rt; "v{v} {}", item.value)?;
         }
     }
     Ok(())

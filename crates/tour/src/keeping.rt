@@ -1,7 +1,6 @@
 // The second part of the tour: the run as a trace, and the trace as a file.
 use anyhow::anyhow;
-use refusal::Object;
-use trace::draft::Draft;
+use refusal::{Object, Refusal};
 use trace::{Event, Room, Trace};
 use trace_file::read::read;
 use trace_file::write::write;
@@ -9,58 +8,25 @@ use trace_file::write::write;
 // Makes the trace of the run, writes it, reads it back, and shows two files refused.
 pub(crate) fn keep(rt: &HostRuntime) -> anyhow::Result<()> {
     println!(rt; "The run's trace is made.")?;
-    let Some(trace) = worked(rt)? else {
+    let Some(trace) = worked::trace(Room::reserve(rt.alloc())?, [1, 1, 4]) else {
         return Err(anyhow!("the worked trace is not sound"));
     };
     say(rt, &trace)?;
     let mut buffer = [0; 160];
     match write(&trace, &mut buffer) {
-        Err(fault) => println!(rt; "  {}", fault.refusal())?,
+        Err(fault) => println!(rt; "  {}", Refusal::from(fault))?,
         Ok(length) => {
             println!(rt; "It is written as a file of {length} bytes.")?;
             print!(rt; "  The section of v0:")?;
-            hexadecimal(rt, &buffer[136..140])?;
-            hexadecimal(rt, &buffer[140..144])?;
-            hexadecimal(rt, &buffer[144..150])?;
-            hexadecimal(rt, &buffer[150..154])?;
+            for event in [&buffer[136..140], &buffer[140..144], &buffer[144..150], &buffer[150..154]] {
+                hexadecimal(rt, event)?;
+            }
             println!(rt; "")?;
             open(rt, "The file", &buffer)?;
             damage(rt, &buffer)?;
         }
     }
     Ok(())
-}
-
-// Threads 3 and 1 read variable 0, 3 wrote it, and 2 read what it wrote.
-fn worked(rt: &HostRuntime) -> anyhow::Result<Option<Trace>> {
-    let Some(mut draft) = Draft::new(Room::reserve(rt.alloc())?, 3) else {
-        return Ok(None);
-    };
-    for event in [
-        Event::Read {
-            thread: 3,
-            version: 0,
-        },
-        Event::Read {
-            thread: 1,
-            version: 0,
-        },
-        Event::Write {
-            thread: 3,
-            version: 0,
-            reads: 2,
-        },
-        Event::Read {
-            thread: 2,
-            version: 1,
-        },
-    ] {
-        let _ = draft.add(0, event);
-    }
-    for (thread, count) in [(1, 1), (2, 1), (3, 4)] {
-        let _ = draft.set_count(thread, count);
-    }
-    Ok(draft.finish().ok())
 }
 
 // What a trace has of variable 0, and its counts.
@@ -99,7 +65,7 @@ fn hexadecimal(rt: &HostRuntime, bytes: &[u8]) -> anyhow::Result<()> {
 // Reads a file, and writes what was read once more.
 fn open(rt: &HostRuntime, name: &str, bytes: &[u8; 160]) -> anyhow::Result<()> {
     match read(Room::reserve(rt.alloc())?, bytes) {
-        Err(fault) => println!(rt; "{name} is read: {}.", fault.refusal())?,
+        Err(fault) => println!(rt; "{name} is read: {}.", Refusal::from(fault))?,
         Ok(trace) => {
             println!(rt; "{name} is read.")?;
             say(rt, &trace)?;

@@ -3,18 +3,10 @@
 
 mod keeping;
 
-use machine::{Item, Machine};
+use machine::{Action, Machine, Operation};
 use program::{Instruction, Program, Room};
-
-// Threads 1 and 2 read variable 0; thread 3 reads it, adds 1 and writes it back.
-const WORKED: [u8; 44] = [
-    3, 0, 0, 0, 0, 0, 0, 0, 0, 1, 1, 1, 1, 1, 1, 1, 1, // threads, starts, limits
-    1, 6, 0, 0, 0, // thread 1
-    1, 6, 0, 0, 0, // thread 2
-    4, 6, 0, 0, 0, 1, 1, 1, 0, 2, 0, 1, 0, 7, 0, 0, 0, // thread 3
-];
-
-const ORDER: [u8; 6] = [3, 1, 3, 3, 3, 2];
+use refusal::Refusal;
+use worked::{ORDER, WORKED};
 
 fn main(rt: HostRuntime) -> anyhow::Result<()> {
     tour(&rt)
@@ -25,7 +17,7 @@ fn tour(rt: &HostRuntime) -> anyhow::Result<()> {
     println!(rt; "A program of {} bytes is read.", WORKED.len())?;
     match Program::read(room, &WORKED) {
         Err(fault) => {
-            println!(rt; "  {}", fault.refusal())?;
+            println!(rt; "  {}", Refusal::from(fault))?;
         }
         Ok((program, taken)) => {
             list(rt, &program, taken)?;
@@ -55,72 +47,68 @@ fn run(rt: &HostRuntime, program: &Program) -> anyhow::Result<()> {
     println!(rt; "It is run, the threads stepping in the order {ORDER:?}.")?;
     let mut machine = Machine::start(program);
     for thread in ORDER {
+        let action = machine.action(program, thread);
         match machine.current(program, thread) {
             Some(instruction) if machine.step(program, thread) => {
                 println!(rt; "  Thread {thread}: {instruction}.")?;
                 change(rt, &machine, thread, instruction)?;
+                object(rt, &machine, action.unwrap_or(Action::Local))?;
             }
             _ => println!(rt; "  Thread {thread} is not able.")?,
         }
     }
     println!(rt; "The variables that are not 0:")?;
-    for v in 0..16 {
-        match machine.variable(v) {
-            Some(Item { value, .. }) if value != 0 => println!(rt; "  v{v} {value}")?,
-            _ => {}
+    for (v, item) in machine.variables().iter().enumerate() {
+        if item.value != 0 {
+            println!(rt; "  v{v} {}", item.value)?;
         }
     }
     Ok(())
 }
 
-// What a step changed: the thread's register or place, and the object.
+// What a step changed of its thread: a register, or the place that it jumped to. An instruction's code is a number.
 fn change(
     rt: &HostRuntime,
     machine: &Machine,
     thread: u8,
     instruction: Instruction,
 ) -> anyhow::Result<()> {
-    if let Some(state) = machine.thread(thread) {
-        let a = instruction.a as usize;
-        match instruction.code {
-            1..=3 | 6 if a < state.registers.len() => println!(rt;
-                "    r{a} is {}",
-                state.registers[a]
-            )?,
-            4..=5 => println!(rt; "    its place is {}", state.place)?,
-            _ => {}
-        }
+    let Some(state) = machine.thread(thread) else {
+        return Ok(());
+    };
+    let a = instruction.a;
+    match (instruction.code, state.registers.get(usize::from(a))) {
+        (1..=3 | 6, Some(value)) => println!(rt; "    r{a} is {value}")?,
+        (4..=5, _) => println!(rt; "    its place is {}", state.place)?,
+        _ => {}
     }
-    object(rt, machine, instruction)
+    Ok(())
 }
 
-// What the instruction's object holds now.
-fn object(rt: &HostRuntime, machine: &Machine, instruction: Instruction) -> anyhow::Result<()> {
-    let b = (instruction.b & 0xff) as u8;
-    match instruction.code {
-        6..=7 => {
-            if let Some(
-                Item {
-                    value,
-                    version,
-                    made,
-                },
-            ) = machine.variable(b)
-            {
-                println!(rt; "    v{b} is {value}, version {version}, reads made of it {made}")?;
+// What the object that a step acted on holds now.
+fn object(rt: &HostRuntime, machine: &Machine, action: Action) -> anyhow::Result<()> {
+    match action {
+        Action::Local => {}
+        Action::Read { variable: v } | Action::Write { variable: v } => {
+            if let Some(item) = machine.variable(v) {
+                println!(rt;
+                    "    v{v} is {}, version {}, reads made of it {}",
+                    item.value,
+                    item.version,
+                    item.made
+                )?;
             }
         }
-        8..=9 => {
-            if let Some(value) = machine.semaphore(b) {
-                println!(rt; "    s{b} is {value}")?;
+        Action::Sync { operation: Operation::P | Operation::V, number } => {
+            if let Some(value) = machine.semaphore(number) {
+                println!(rt; "    s{number} is {value}")?;
             }
         }
-        10..=11 => {
-            if let Some(holder) = machine.holder(b) {
-                println!(rt; "    l{b} has the holder {holder}")?;
+        Action::Sync { operation: Operation::Lock | Operation::Unlock, number } => {
+            if let Some(holder) = machine.holder(number) {
+                println!(rt; "    l{number} has the holder {holder}")?;
             }
         }
-        _ => {}
     }
     Ok(())
 }
@@ -137,7 +125,7 @@ fn refuse(rt: &HostRuntime) -> anyhow::Result<()> {
 fn attempt(rt: &HostRuntime, name: &str, bytes: &[u8]) -> anyhow::Result<()> {
     match Program::read(Room::reserve(rt.alloc())?, bytes) {
         Ok((_, taken)) => println!(rt; "  The program {name}: {taken} bytes taken.")?,
-        Err(fault) => println!(rt; "  The program {name}: {}.", fault.refusal())?,
+        Err(fault) => println!(rt; "  The program {name}: {}.", Refusal::from(fault))?,
     }
     Ok(())
 }

@@ -1,19 +1,20 @@
 // The tour's trace replayed, under schedulers and by permits.
-use crate::{ORDER, WORKED, variables, worked};
 use anyhow::anyhow;
 use machine::Machine;
 use program::{Program, Room};
+use refusal::Refusal;
 use replay::faults::Fault;
 use replay::{Ending, Replay};
 use schedule::{Scheduler, Seeded, Turn};
-use trace::Trace;
+use trace::{Room as TraceRoom, Trace};
+use worked::{ORDER, WORKED};
 
 // Replays the worked trace in four ways, and one whose counts are wrong.
 pub(crate) fn replays(rt: &HostRuntime) -> anyhow::Result<()> {
     let Ok((program, _)) = Program::read(Room::reserve(rt.alloc())?, &WORKED) else {
         return Err(anyhow!("the worked program is refused"));
     };
-    let Some(trace) = worked(rt, 4)? else {
+    let Some(trace) = worked::trace(TraceRoom::reserve(rt.alloc())?, [1, 1, 4]) else {
         return Err(anyhow!("the worked trace is not sound"));
     };
     scheduled(
@@ -38,7 +39,7 @@ pub(crate) fn replays(rt: &HostRuntime) -> anyhow::Result<()> {
         &mut Seeded::new(2024),
     )?;
     permits(rt, &program, &trace)?;
-    let Some(longer) = worked(rt, 5)? else {
+    let Some(longer) = worked::trace(TraceRoom::reserve(rt.alloc())?, [1, 1, 5]) else {
         return Err(anyhow!("the longer trace is not sound"));
     };
     println!(rt; "A trace that says thread 3 made 5 steps is replayed.")?;
@@ -47,10 +48,7 @@ pub(crate) fn replays(rt: &HostRuntime) -> anyhow::Result<()> {
 }
 
 fn start<'a>(program: &'a Program, trace: &'a Trace) -> anyhow::Result<Replay<'a>> {
-    match Replay::new(program, trace) {
-        Ok(replay) => Ok(replay),
-        Err(_) => Err(anyhow!("program and trace differ in their threads")),
-    }
+    Replay::new(program, trace).map_err(|_| anyhow!("program and trace differ in their threads"))
 }
 
 // A whole replay under the scheduler.
@@ -86,12 +84,9 @@ fn order<S: Scheduler>(
 
 // The first thread whose count differs, or 0.
 fn stepped(before: &Machine, after: &Machine) -> u8 {
-    for thread in 1..=8 {
-        if before.count(thread) != after.count(thread) {
-            return thread;
-        }
-    }
-    0
+    (1..=8)
+        .find(|thread| before.count(*thread) != after.count(*thread))
+        .unwrap_or(0)
 }
 
 // Runs the rest, and says how the replay ends.
@@ -107,7 +102,7 @@ fn ending<S: Scheduler>(
         Ok(Ending::Spent { steps }) => println!(rt;
             "  The replay is not complete after {steps} steps."
         )?,
-        Err(fault) => println!(rt; "  The replay ends: {}.", fault.refusal())?,
+        Err(fault) => println!(rt; "  The replay ends: {}.", Refusal::from(fault))?,
     }
     Ok(())
 }
@@ -124,47 +119,18 @@ fn compare(rt: &HostRuntime, program: &Program, machine: &Machine) -> anyhow::Re
     for thread in ORDER {
         let _ = ran.step(program, thread);
     }
-    let same = same_threads(&ran, machine)
-        && same_variables(&ran, machine)
-        && same_locks(&ran, machine);
-    println!(rt; "The machine is the same as after the run: {same}.")?;
+    println!(rt; "The machine is the same as after the run: {}.", ran == *machine)?;
     Ok(())
 }
 
-fn same_threads(a: &Machine, b: &Machine) -> bool {
-    for thread in 1..=8 {
-        match (a.thread(thread), b.thread(thread)) {
-            (Some(x), Some(y)) => {
-                let (these, those) = (x.registers, y.registers);
-                if these != those || x.place != y.place || x.count != y.count {
-                    return false;
-                }
-            }
-            _ => return false,
+fn variables(rt: &HostRuntime, machine: &Machine) -> anyhow::Result<()> {
+    println!(rt; "The variables that are not 0:")?;
+    for (v, item) in machine.variables().iter().enumerate() {
+        if item.value != 0 {
+            println!(rt; "  v{v} {}", item.value)?;
         }
     }
-    true
-}
-
-fn same_variables(a: &Machine, b: &Machine) -> bool {
-    for v in 0..16 {
-        match (a.variable(v), b.variable(v)) {
-            (Some(x), Some(y))
-                if x.value == y.value && x.version == y.version && x.made == y.made => {}
-            _ => return false,
-        }
-    }
-    true
-}
-
-// Semaphores and locks.
-fn same_locks(a: &Machine, b: &Machine) -> bool {
-    for number in 0..8 {
-        if a.semaphore(number) != b.semaphore(number) || a.holder(number) != b.holder(number) {
-            return false;
-        }
-    }
-    true
+    Ok(())
 }
 
 // A replay whose first steps are made by permits. Thread 1 reads before thread 3 here: in the run it read after.
@@ -178,7 +144,7 @@ fn permits<'a>(rt: &HostRuntime, program: &'a Program, trace: &'a Trace) -> anyh
             )?,
             Err(fault) => println!(rt;
                 "  A permit for thread {thread} is asked for: {}.",
-                fault.refusal()
+                Refusal::from(fault)
             )?,
         }
     }
@@ -186,7 +152,7 @@ fn permits<'a>(rt: &HostRuntime, program: &'a Program, trace: &'a Trace) -> anyh
         Ok(_) => println!(rt; "  A run is made while a permit is out.")?,
         Err(fault) => println!(rt;
             "  A permit for thread 3 is given, and a run tried while it is out: {}.",
-            fault.refusal()
+            Refusal::from(fault)
         )?,
     }
     println!(rt; "  The permit is handed back, and the rest is run, each thread in turn.")?;
@@ -196,21 +162,15 @@ fn permits<'a>(rt: &HostRuntime, program: &'a Program, trace: &'a Trace) -> anyh
 
 // Asks for a permit and performs it. The permit is the one that is out, so that it is proved to be taken.
 fn perform(replay: &mut Replay, thread: u8) -> Result<u16, Fault> {
-    match replay.request(thread) {
-        Ok(permit) => Ok(replay.perform(permit).unwrap()),
-        Err(fault) => Err(fault),
-    }
+    let permit = replay.request(thread)?;
+    Ok(replay.perform(permit).unwrap())
 }
 
 // Asks for a permit, tries a run while it is out, and hands it back. The run is refused and alters nothing, so that the
 // permit is proved to be taken.
 fn hold(replay: &mut Replay, thread: u8) -> Result<Ending, Fault> {
-    match replay.request(thread) {
-        Ok(permit) => {
-            let answer = replay.run(1, &mut Turn::new(1));
-            replay.hand_back(permit).unwrap();
-            answer
-        }
-        Err(fault) => Err(fault),
-    }
+    let permit = replay.request(thread)?;
+    let answer = replay.run(1, &mut Turn::new(1));
+    replay.hand_back(permit).unwrap();
+    answer
 }

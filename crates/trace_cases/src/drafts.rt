@@ -42,26 +42,15 @@ fn of_variable(
 
 fn accepted(rt: &(impl Abort + AllocGlobal), events: &[Event]) -> Result<(), Fail> {
     let trace = of_variable(rt, events)??;
-    let sequence = trace.sequence(Object::Variable(3));
-    assert!(rt; sequence.len() == events.len());
-    for (k, event) in events.iter().enumerate() {
-        assert!(rt; k < sequence.len() && sequence[k] == *event);
-    }
+    assert!(rt; trace.sequence(Object::Variable(3)) == events);
     Ok(())
 }
 
 // The number of the first wrong event.
 fn wrong(rt: &(impl Abort + AllocGlobal), events: &[Event], first: usize) -> Result<(), Fail> {
-    match of_variable(rt, events)? {
-        Ok(_) => {
-            assert!(rt; false, "an unsound trace was made");
-            Ok(())
-        },
-        Err(fault) => {
-            assert!(rt; fault == Fault::Unsound(Object::Variable(3), first));
-            Ok(())
-        },
-    }
+    let fault = of_variable(rt, events)?.err();
+    assert_eq!(rt; fault, Some(Fault::Unsound(Object::Variable(3), first)));
+    Ok(())
 }
 
 #[test]
@@ -104,25 +93,15 @@ fn wrong_totals(rt: HostRuntime) -> Result<(), Fail> {
 fn the_first_fault(rt: HostRuntime) -> Result<(), Fail> {
     let mut two = draft(&rt, 1)?;
     assert!(rt; two.add(15, read(1, 9)) && two.add(2, read(1, 0)) && two.add(2, read(1, 5)));
-    match two.finish() {
-        Ok(_) => assert!(rt; false),
-        Err(fault) => assert!(rt; fault == Fault::Unsound(Object::Variable(2), 1)),
-    }
+    let fault = two.finish().err();
+    assert_eq!(rt; fault, Some(Fault::Unsound(Object::Variable(2), 1)));
     let mut many = draft(&rt, 1)?;
     assert!(rt; many.add(0, read(1, 7)));
     for _ in 0..1024 {
         assert!(rt; many.add(16, sync(1, Operation::P)));
     }
-    match many.finish() {
-        Ok(_) => {
-            assert!(rt; false);
-            Ok(())
-        },
-        Err(fault) => {
-            assert!(rt; fault == Fault::TooMany);
-            Ok(())
-        },
-    }
+    assert_eq!(rt; many.finish().err(), Some(Fault::TooMany));
+    Ok(())
 }
 
 #[test]

@@ -1,9 +1,8 @@
 // Trace files, whole and damaged, and what the reader and the writer make of each.
-use refusal::Object;
+use refusal::{Object, Refusal};
 use std::process::Abort;
 use std::test::Fail;
-use trace::draft::Draft;
-use trace::{Event, Room, Trace};
+use trace::{Room, Trace};
 use trace_file::read::read;
 use trace_file::write::write;
 
@@ -11,13 +10,10 @@ use trace_file::write::write;
 type Outcome = Option<(u8, Option<usize>, Option<Object>)>;
 
 fn outcome(rt: &HostRuntime, bytes: &[u8]) -> Result<Outcome, Fail> {
-    Ok(match read(Room::reserve(rt.alloc())?, bytes) {
-        Ok(_) => None,
-        Err(fault) => {
-            let refusal = fault.refusal();
-            Some((refusal.number, refusal.place, refusal.object))
-        }
-    })
+    let refusal = read(Room::reserve(rt.alloc())?, bytes)
+        .err()
+        .map(Refusal::from);
+    Ok(refusal.map(|r| (r.number, r.place, r.object)))
 }
 
 fn at(number: u8, place: usize) -> Outcome {
@@ -25,31 +21,8 @@ fn at(number: u8, place: usize) -> Outcome {
 }
 
 // The worked trace: variable 0 was read by 3 and 1, written by 3, and read by 2.
-fn worked(rt: &(impl Abort + AllocGlobal)) -> Result<Trace, Fail> {
-    let mut draft = Draft::new(Room::reserve(rt.alloc())?, 3).ok_or("no draft")?;
-    for event in [
-        Event::Read {
-            thread: 3,
-            version: 0,
-        },
-        Event::Read {
-            thread: 1,
-            version: 0,
-        },
-        Event::Write {
-            thread: 3,
-            version: 0,
-            reads: 2,
-        },
-        Event::Read {
-            thread: 2,
-            version: 1,
-        },
-    ] {
-        assert!(rt; draft.add(0, event));
-    }
-    assert!(rt; draft.set_count(1, 1) && draft.set_count(2, 1) && draft.set_count(3, 4));
-    Ok(draft.finish()?)
+fn worked(rt: &impl AllocGlobal) -> Result<Trace, Fail> {
+    Ok(worked::trace(Room::reserve(rt.alloc())?, [1, 1, 4]).ok_or("no trace")?)
 }
 
 fn worked_file(rt: &(impl Abort + AllocGlobal)) -> Result<[u8; 160], Fail> {
@@ -58,36 +31,21 @@ fn worked_file(rt: &(impl Abort + AllocGlobal)) -> Result<[u8; 160], Fail> {
     Ok(buffer)
 }
 
-// A file of T threads in which only the section at a place has bytes, and all counts are 0.
+// A file of T threads in which only the section at a place, below 32, has bytes, and all counts are 0.
 fn file(rt: &HostRuntime, threads: u8, place: usize, section: &[u8]) -> Result<Vec<u8>, Fail> {
     let mut bytes = [4, 0, threads, 0].to_vec(rt.alloc())?;
-    let size = u16::try_from(section.len())?;
-    for k in 0..33usize {
-        let offset = if k <= place {
-            136
-        } else {
-            u16::try_from(136 + section.len())?
-        };
-        let length = if k == place {
-            size
-        } else if k == 32 {
-            2 * u16::from(threads)
-        } else {
-            0
-        };
-        for byte in offset.to_le_bytes() {
-            bytes.push(byte)?;
-        }
-        for byte in length.to_le_bytes() {
-            bytes.push(byte)?;
-        }
+    let mut sizes = [0; 33];
+    sizes[32] = 2 * u16::from(threads);
+    assert!(rt; place < 32);
+    sizes[place] = u16::try_from(section.len())?;
+    let mut offset = 136u16;
+    for size in sizes {
+        bytes.extend_from_slice(&offset.to_le_bytes())?;
+        bytes.extend_from_slice(&size.to_le_bytes())?;
+        offset = offset.checked_add(size).ok_or("a longer file than there is")?;
     }
-    for byte in section {
-        bytes.push(*byte)?;
-    }
-    for _ in 0..2 * u16::from(threads) {
-        bytes.push(0)?;
-    }
+    bytes.extend_from_slice(section)?;
+    bytes.resize(bytes.len() + 2 * usize::from(threads), 0)?;
     Ok(bytes)
 }
 
@@ -95,21 +53,15 @@ fn of_section(rt: &HostRuntime, place: usize, section: &[u8]) -> Result<Outcome,
     outcome(rt, file(rt, 3, place, section)?.as_slice())
 }
 
-fn same(a: &[u8], b: &[u8]) -> bool {
-    a == b
-}
-
 #[test]
 fn the_worked_file(rt: HostRuntime) -> Result<(), Fail> {
     let bytes = worked_file(&rt)?;
-    assert!(rt; same(&bytes[0..8], &[4, 0, 3, 0, 136, 0, 18, 0]));
-    assert!(rt;
-        same(
-            &bytes[136..154],
-            &[3, 0, 0, 0, 1, 0, 0, 0, 3, 1, 0, 0, 2, 0, 2, 0, 1, 0],
-        )
+    assert_eq!(rt; &bytes[0..8], [4, 0, 3, 0, 136, 0, 18, 0].as_slice());
+    assert_eq!(rt;
+        &bytes[136..154],
+        [3, 0, 0, 0, 1, 0, 0, 0, 3, 1, 0, 0, 2, 0, 2, 0, 1, 0].as_slice()
     );
-    assert!(rt; same(&bytes[154..160], &[1, 0, 1, 0, 4, 0]));
+    assert_eq!(rt; &bytes[154..160], [1, 0, 1, 0, 4, 0].as_slice());
     let again = read(Room::reserve(rt.alloc())?, &bytes)?;
     assert_eq!(rt;
         (again.threads(), *again.counts()),
@@ -117,7 +69,8 @@ fn the_worked_file(rt: HostRuntime) -> Result<(), Fail> {
     );
     let mut buffer = [170; 170];
     assert_eq!(rt; write(&again, &mut buffer)?, 160);
-    assert!(rt; same(&buffer[0..160], &bytes) && same(&buffer[160..170], &[170; 10]));
+    assert_eq!(rt; &buffer[0..160], bytes.as_slice());
+    assert_eq!(rt; &buffer[160..170], [170; 10].as_slice());
     Ok(())
 }
 
@@ -125,11 +78,9 @@ fn the_worked_file(rt: HostRuntime) -> Result<(), Fail> {
 fn a_buffer_too_short(rt: HostRuntime) -> Result<(), Fail> {
     let trace = worked(&rt)?;
     let mut buffer = [170; 159];
-    match write(&trace, &mut buffer) {
-        Ok(_) => assert!(rt; false),
-        Err(fault) => assert_eq!(rt; (fault.refusal().number, fault.refusal().place), (17, None)),
-    }
-    assert!(rt; same(&buffer, &[170; 159]));
+    let refusal = write(&trace, &mut buffer).err().map(Refusal::from);
+    assert_eq!(rt; refusal.map(|r| (r.number, r.place)), Some((17, None)));
+    assert_eq!(rt; buffer, [170; 159]);
     let mut none = [];
     assert!(rt; write(&trace, &mut none).is_err());
     Ok(())
@@ -275,12 +226,9 @@ fn versions_and_totals(rt: HostRuntime) -> Result<(), Fail> {
 fn many(rt: &HostRuntime, n: usize, more: &[u8]) -> Result<Outcome, Fail> {
     let mut section = Vec::new(rt.alloc());
     for _ in 0..n {
-        section.push(1)?;
-        section.push(2)?;
+        section.extend_from_slice(&[1, 2])?;
     }
-    for byte in more {
-        section.push(*byte)?;
-    }
+    section.extend_from_slice(more)?;
     of_section(rt, 16, section.as_slice())
 }
 
