@@ -5,6 +5,7 @@ pub mod code;
 pub mod faults;
 mod memory;
 pub mod read;
+mod reader;
 mod reserve;
 pub mod text;
 
