@@ -10,7 +10,7 @@ use crate::{Instruction, Room};
 
 // Bytes, and the place of the next field.
 #[derive(Drop)]
-pub struct Reader<'a> {
+pub(crate) struct Reader<'a> {
     pub bytes: &'a [u8],
     pub at: usize,
 }
@@ -47,7 +47,7 @@ impl Reader<'_> {
         ensures bytes { self.new.bytes ≡ self.old.bytes }
     {
         match self.bytes.get(self.at) {
-            Some(byte) if low <= *byte && *byte <= high => {
+            Some(byte) if (low..=high).contains(byte) => {
                 self.at += 1;
                 Ok(*byte)
             }
@@ -89,13 +89,12 @@ impl Reader<'_> {
         ensures after { IfOk result (λ _. self.new.at ≡ 9) }
         ensures bytes { self.new.bytes ≡ self.old.bytes }
     {
-        match self.bytes.get(self.at..self.at + 8) {
-            Some(starts) => {
-                self.at += 8;
-                Ok(<[u8; 8]>::try_from(starts).unwrap())
-            }
-            None => Err(Fault::Malformed(self.bytes.len())),
-        }
+        let starts = self
+            .bytes
+            .get(self.at..self.at + 8)
+            .ok_or(Fault::Malformed(self.bytes.len()))?;
+        self.at += 8;
+        Ok(starts.try_into().unwrap())
     }
 
     // The semaphores' limits, each from 1 and not below its start.
