@@ -8,6 +8,9 @@ ghost use Rattle.machine.specs.View.{code_of, meaning, view};
 use crate::{Machine, Operation};
 use program::{Instruction, Program};
 
+// the codes from here on are on a shared object
+const EVENTS: u8 = 6;
+
 // What a step does to the shared objects.
 #[derive(Clone, Copy, PartialEq, Eq, Debug)]
 pub enum Action {
@@ -23,24 +26,19 @@ impl Action {
         requires { Usable i }
         ensures { result ≡ action (meaning i) }
     {
-        // a rule of the project: what an instruction does is one match on its code
+        if i.code < EVENTS {
+            return Action::Local;
+        }
+        let number = i.b as u8;
         let operation = match i.code {
-            0..=5 => return Action::Local,
-            6 => return Action::Read {
-                variable: i.b as u8,
-            },
-            7 => return Action::Write {
-                variable: i.b as u8,
-            },
+            6 => return Action::Read { variable: number },
+            7 => return Action::Write { variable: number },
             8 => Operation::P,
             9 => Operation::V,
             10 => Operation::Lock,
             _ => Operation::Unlock,
         };
-        Action::Sync {
-            operation,
-            number: i.b as u8,
-        }
+        Action::Sync { operation, number }
     }
 }
 
