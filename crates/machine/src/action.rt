@@ -21,7 +21,7 @@ pub enum Action {
 }
 
 impl Action {
-    // What the instruction does.
+    // What the instruction does, by ranges of its code as in the machine's step.
     fn of(i: Instruction) -> Action
         requires { Usable i }
         ensures { result ≡ action (meaning i) }

