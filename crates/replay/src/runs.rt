@@ -18,16 +18,7 @@ impl Replay<'_> {
         ensures { result ≡ offers (program_of self.now) (trace_of self.now) (shown self.now).progress }
     {
         let follower = &self.follower;
-        ThreadSet::of([
-            follower.permitted(1),
-            follower.permitted(2),
-            follower.permitted(3),
-            follower.permitted(4),
-            follower.permitted(5),
-            follower.permitted(6),
-            follower.permitted(7),
-            follower.permitted(8),
-        ])
+        ThreadSet::of([1, 2, 3, 4, 5, 6, 7, 8].map(|thread| follower.permitted(thread)))
     }
 
     // The step of a permitted thread, and the threads permitted after it. A local step changes only its own thread, so
