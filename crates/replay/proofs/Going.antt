@@ -1,6 +1,5 @@
 -- One turn of a run.
-use Rattle.std.proofs.Common.{◌≡◌, ℕ, zero, suc, ◌-◌, min, Bool, true, false, [], ◌∷◌, is_some, Ok, Err, Result, sym, refl, ap, ◌∙◌, subst, arith}
-use Rattle.std.proofs.lemmas.Bool.{cond-true, cond-false}
+use Rattle.std.proofs.Common.{◌≡◌, ℕ, zero, suc, ◌-◌, true, false, [], ◌∷◌, sym, refl, ap, ◌∙◌, subst, arith}
 use Rattle.program.specs.declared.Program.{Program}
 use Rattle.machine.specs.Machine.{Code, here}
 use Rattle.machine.specs.View.{code_of}
@@ -8,15 +7,11 @@ use Rattle.machine.proofs.Programs.{proper}
 use Rattle.trace.specs.History.{History}
 use Rattle.schedule.specs.declared.ThreadSet.{ThreadSet}
 use Rattle.schedule.specs.Threads.{empty, has, with}
-use Rattle.schedule.specs.Strategies.{Told, Strategy, Picks, strategy, tells}
+use Rattle.schedule.specs.Strategies.{Told, Strategy, strategy, tells}
 use Rattle.schedule.specs.Members.{nonempty_some, set_with}
 use Rattle.following.specs.Following.{Progress, advance, local_at, permitted}
 use Rattle.following.proofs.Stays.{stays}
-use Rattle.replay.specs.declared.Ending.{Ending}
-use Rattle.replay.specs.declared.Ending.TheVariants.{Spent}
-use Rattle.replay.specs.declared.faults.Fault.{Fault}
-use Rattle.replay.specs.declared.faults.Fault.TheVariants.{PermitOut}
-use Rattle.replay.specs.Calls.{Replaying, stepped, end_of, Ran, rests, led_by, offers, goes, runs}
+use Rattle.replay.specs.Calls.{Replaying, stepped, end_of, Ran, rests, led_by, offers, goes}
 use Rattle.replay.proofs.Reached.{offers_has}
 
 abbrev pub tell : ThreadSet → ℕ → Told
@@ -38,17 +33,6 @@ module _ (p : Code) (t : History) where
   goes_on : (n : ℕ) (s : Replaying) (f : Strategy) (o : ThreadSet) (i : ℕ) → o ≡ offers p t s.progress → i ≡ f [] o → empty o ≡ false → (n ≡ 0 → ⊥) → goes p t n s f ≡ led_by (tell o i) (goes p t (n - 1) (stepped p s i) (λ h. f (tell o i ∷ h)))
   goes_on n s f o i e e2 h z = rw (e2, e) (goes_step n s f z (subst (λ (x : ThreadSet). empty x ≡ false) e h))
 
-  -- the budget is used up while a thread is offered
-  pub spends : (n : ℕ) (s : Replaying) (f : Strategy) (o : ThreadSet) → o ≡ offers p t s.progress → empty o ≡ false → n ≡ 0 → goes p t n s f ≡ rests (Ok (Spent s.steps)) s
-  spends n s f o e h z = ap (λ (k : ℕ). goes p t k s f) z ∙ cond-false (empty (offers p t s.progress)) _ _ (subst (λ (x : ThreadSet). empty x ≡ false) e h)
-
-  -- while a permit is out, no run begins; otherwise one of so many steps
-  pub refused : (n : ℕ) (s : Replaying) (f : Strategy) → is_some s.out ≡ true → runs p t n s f ≡ rests (Err PermitOut) s
-  refused n s f h = cond-true (is_some s.out) _ _ h
-
-  pub begins : (n k : ℕ) (s : Replaying) (f : Strategy) → is_some s.out ≡ false → k ≡ min n 1048575 → runs p t n s f ≡ goes p t k s f
-  begins n k s f h e = cond-false (is_some s.out) _ _ h ∙ ap (λ (m : ℕ). goes p t m s f) (sym e)
-
 module _ {S : Type 0} (rule : S → ThreadSet → ℕ) (next : S → ThreadSet → ℕ → S) where
   -- two runs, of schedulers a and b, come out alike
   pub record Alike (a : S) (x : Ran) (b : S) (y : Ran) : Type 0 where
@@ -66,24 +50,6 @@ module _ {S : Type 0} (rule : S → ThreadSet → ℕ) (next : S → ThreadSet �
       let e = goes_on p t n s (strategy rule next c) o i eo ei h z in
       rw (ep, et, es, ec) (record { answer = ap (λ (r : Ran). r.answer) e; after = ap (λ (r : Ran). r.after) e; scheduler = ap (λ (r : Ran). tells rule next c r.told) e })
 
-  -- a run that x tells of came to this answer, this replay and this scheduler
-  pub record Comes (a b : S) (r : Result Ending Fault) (s : Replaying) (x : Ran) : Type 0 where
-    pub answer : r ≡ x.answer
-    pub after : s ≡ x.after
-    pub scheduler : b ≡ tells rule next a x.told
-
-  -- where what is left rests, the whole run comes to that
-  pub comes : (a b : S) (r : Result Ending Fault) (s : Replaying) (x y z : Ran) → x ≡ y → Alike a y b z → z ≡ rests r s → Comes a b r s x
-  comes a b r s x y z e h k = record {
-    answer = sym (ap (λ (w : Ran). w.answer) e ∙ h.answer ∙ ap (λ (w : Ran). w.answer) k);
-    after = sym (ap (λ (w : Ran). w.after) e ∙ h.after ∙ ap (λ (w : Ran). w.after) k);
-    scheduler = sym (ap (λ (w : Ran). tells rule next a w.told) e ∙ h.scheduler ∙ ap (λ (w : Ran). tells rule next b w.told) k);
-  }
-
-  -- a scheduler that names one of those offered goes on doing so
-  pub strategy_picks : ((s : S) (o : ThreadSet) (k : ℕ) → has o k ≡ true → has o (rule s o) ≡ true) → (s : S) → Picks (strategy rule next s)
-  strategy_picks chosen s h o k is = chosen (tells rule next s h) o k is
-
 -- the thread that is named is permitted
 pub named_permitted : (q : Program) (t : History) (r : Progress) (o : ThreadSet) (i : ℕ) → o ≡ offers (code_of q) t r → empty o ≡ false → ((k : ℕ) → has o k ≡ true → has o i ≡ true) → permitted (code_of q) t r i ≡ true
 named_permitted q t r o i e some chosen =
@@ -91,8 +57,7 @@ named_permitted q t r o i e some chosen =
     sym (offers_has (code_of q) (proper q) t r i) ∙ ap (λ (x : ThreadSet). has x i) (sym e) ∙ chosen w.0 w.1
 
 -- after a local step, what is offered changes at its own thread only
-pub offer_kept : (q : Program) (t : History) (r x : Progress) (i : ℕ) (o : ThreadSet) (b : Bool) → true ≡ local_at (here (code_of q) r.machine i) → x ≡ advance (code_of q) i r → o ≡ offers (code_of q) t r → b ≡ permitted (code_of q) t x i → with o i b ≡ offers (code_of q) t x
-offer_kept q t r x i o b local e eo eb =
+pub offer_kept : (q : Program) (t : History) (r : Progress) (i : ℕ) → local_at (here (code_of q) r.machine i) ≡ true → with (offers (code_of q) t r) i (permitted (code_of q) t (advance (code_of q) i r) i) ≡ offers (code_of q) t (advance (code_of q) i r)
+offer_kept q t r i local =
     let p = code_of q in
-    (λ j. with (eo j) i (eb j))
-    ∙ set_with (permitted p t r) (permitted p t x) i (λ k n. ap (λ (y : Progress). permitted p t y k) e ∙ stays p t r i k n (sym local))
+    set_with (permitted p t r) (permitted p t (advance p i r)) i (λ k n. stays p t r i k n local)

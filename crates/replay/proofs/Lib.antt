@@ -5,3 +5,4 @@ pub mod Promises
 pub mod Called
 pub mod Going
 pub mod Worked
+pub mod Mapped

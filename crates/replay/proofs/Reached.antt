@@ -1,6 +1,6 @@
 -- After any calls, the threads that they stepped were each permitted at its turn, and the replay stands where these steps lead.
-use Rattle.std.proofs.Common.{◌≡◌, ℕ, zero, suc, ◌<◌, min, true, false, eqb, ◌⊎◌, List, [], ◌∷◌, ◌++◌, length, is_some, Some, None, Option, sym, refl, ap, ◌∙◌, subst, inl, inr, append_assoc, append-nil, arith, length-append}
-use Rattle.std.proofs.lemmas.Bool.{and_parts, eqb-true, false≢true, cond_both, cases_Bool}
+use Rattle.std.proofs.Common.{◌≡◌, ℕ, zero, suc, ◌<◌, min, true, false, ◌⊎◌, List, [], ◌∷◌, ◌++◌, length, is_some, Some, None, Option, sym, refl, ap, ◌∙◌, subst, inl, inr, append_assoc, append-nil, arith, length-append}
+use Rattle.std.proofs.lemmas.Bool.{false≢true, cond_both, cases_Bool}
 use Rattle.machine.specs.Words.{Word, reach}
 use Rattle.machine.specs.Machine.{Code}
 use Rattle.machine.specs.Proper.{Proper}
@@ -13,8 +13,8 @@ use Rattle.following.specs.Following.{Progress, opened, Permitted, advance, perm
 use Rattle.following.specs.Laws.{Followed, end}
 use Rattle.following.proofs.Decided.{permitted_is, is_permitted}
 use Rattle.following.proofs.Events.{no_clash}
-use Rattle.replay.specs.declared.Permit.{Permit}
-use Rattle.replay.specs.Calls.{Replaying, begun, stepped, with_out, Outcome, matches, holds, Ran, threads_told, offers, goes}
+use Rattle.replay.specs.Calls.{Replaying, begun, stepped, with_out, Outcome, holds, Ran, threads_told, offers, goes}
+use Rattle.replay.proofs.Called.{held_thread}
 use Rattle.replay.specs.Promise.{Call, made, threads_of, reaches, replayed_run}
 
 module _ {S : Type 0} (step : ℕ → S → S) where
@@ -88,11 +88,6 @@ module _ (p : Code) (ok : Proper p) (t : History) where
       subst (λ (w : List ℕ). Reached p t w rest.after) (append_assoc us (x.thread ∷ []) (threads_told rest.told))
       (goes_reached n (us ++ (x.thread ∷ [])) (stepped p s x.thread) (λ l. f (x ∷ l)) (λ l. picks (x ∷ l)) (one_more us s x.thread h (picked p ok t s.progress f picks [] some))))
 
-  -- a permit that is the one out is for the thread that is out
-  held_out : (o : Option ℕ) (n : ℕ) (q : Permit) → matches o n q ≡ true → o ≡ Some q.thread
-  held_out None n q h = absurd (false≢true h)
-  held_out (Some i) n q h = ap Some (eqb-true i q.thread (and_parts (eqb i q.thread) (eqb n q.steps) h).0)
-
   -- after the steps us, a call came to where its own steps lead
   abbrev Comes : {A : Type 0} → List ℕ → Outcome A → Type 0
   Comes us x = Reached p t (us ++ x.threads) x.after
@@ -102,7 +97,7 @@ module _ (p : Code) (ok : Proper p) (t : History) where
   one_call us s (Call.request i) h =
       cond_both (is_some s.out) _ _ (Comes us) (λ _. stays us s h) (λ _.
       cond_both (permitted p t s.progress i) _ _ (Comes us) (λ e. with_reached us s (Some i) h (λ k same. let one : i ≡ k = cc in subst (Permitted p t s.progress) one (permitted_is p t s.progress i e))) (λ _. stays us s h))
-  one_call us s (Call.perform q) h = cond_both (holds s q) _ _ (Comes us) (λ e. one_more us s q.thread h (h.allowed q.thread (held_out s.out s.steps q e))) (λ _. stays us s h)
+  one_call us s (Call.perform q) h = cond_both (holds s q) _ _ (Comes us) (λ e. one_more us s q.thread h (h.allowed q.thread (held_thread s q e))) (λ _. stays us s h)
   one_call us s (Call.hand_back q) h = cond_both (holds s q) _ _ (Comes us) (λ e. with_reached us s None h (λ k x. no_clash (cc))) (λ _. stays us s h)
   one_call us s (Call.run n f picks) h = cond_both (is_some s.out) _ _ (RanFrom us) (λ _. stays us s h) (λ _. goes_reached (min n 1048575) us s f picks h)
 

@@ -28,12 +28,12 @@ pub enum Fault {
     },
 }
 
-impl Fault {
-    // The number and the parts of the fault.
-    pub fn refusal(&self) -> Refusal
-        ensures { result ≡ refusal self.now }
-    {
-        let (number, thread, place, object) = match self {
+// The number and the parts of the fault.
+impl From<Fault> for Refusal {
+    ghost from_gives = { λ fault r. r ≡ refusal fault };
+
+    fn from(fault: Fault) -> Refusal {
+        let (number, thread, place, object) = match fault {
             Fault::Threads => (11, None, None, None),
             Fault::PermitOut => (12, None, None, None),
             Fault::NotPermitted => (13, None, None, None),
@@ -43,8 +43,8 @@ impl Fault {
                 place,
                 object,
                 ..
-            } => (15, Some(*thread), Some(*place as usize), *object),
-            Fault::Unused { object, .. } => (16, None, None, Some(*object)),
+            } => (15, Some(thread), Some(place as usize), object),
+            Fault::Unused { object, .. } => (16, None, None, Some(object)),
         };
         Refusal {
             number,

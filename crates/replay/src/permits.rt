@@ -1,8 +1,10 @@
 // Single steps by permit.
-ghost use Rattle.std.specs.Prelude.{◌≡◌, true};
+#![tactic(auto, unfolding(crate::specs::Replays::shown))]
+
+ghost use Rattle.std.specs.Prelude.{◌≡◌, true, if◌then◌else◌};
 ghost use Rattle.following.specs.Following.{permitted};
-ghost use Rattle.replay.specs.Calls.{hands_back, holds, performs, requests, stepped};
-ghost use Rattle.replay.specs.Replays.{SameParts, program_of, shown, trace_of};
+ghost use Rattle.replay.specs.Calls.{holds, returned, stepped};
+ghost use Rattle.replay.specs.Replays.{Became, handed_back, performed, program_of, requested, shown, trace_of};
 
 use crate::faults::Fault;
 use crate::{Permit, Replay, Returned};
@@ -10,9 +12,8 @@ use crate::{Permit, Replay, Returned};
 impl Replay<'_> {
     // A permit for the thread's next step, unless one is out or the thread is not permitted.
     pub fn request(&mut self, thread: u8) -> Result<Permit, Fault>
-        ensures answer { result ≡ (requests (program_of self.old) (trace_of self.old) (shown self.old) thread).answer }
-        ensures after { shown self.new ≡ (requests (program_of self.old) (trace_of self.old) (shown self.old) thread).after }
-        ensures parts { SameParts self.old self.new }
+        ensures answer { result ≡ (requested self.old thread).answer }
+        ensures after { Became self.old (requested self.old thread).after self.new }
     {
         if self.out.is_some() {
             return Err(Fault::PermitOut);
@@ -29,20 +30,12 @@ impl Replay<'_> {
     fn holds(&self, permit: &Permit) -> bool
         ensures { result ≡ holds (shown self.now) permit.now }
     {
-        let Some(thread) = self.out else {
-            return false;
-        };
-        if thread != permit.thread {
-            return false;
-        }
-        self.steps() == permit.steps
+        self.out == Some(permit.thread) && self.steps() == permit.steps
     }
 
-    // Makes the step of the permit, and answers the thread's count; or gives the permit back.
-    pub fn perform(&mut self, permit: Permit) -> Result<u16, Returned>
-        ensures answer { result ≡ (performs (program_of self.old) (shown self.old) permit).answer }
-        ensures after { shown self.new ≡ (performs (program_of self.old) (shown self.old) permit).after }
-        ensures parts { SameParts self.old self.new }
+    // The thread of the permit that is out; or the permit given back.
+    fn taken(&self, permit: Permit) -> Result<u8, Returned>
+        ensures { result ≡ (if holds (shown self.now) permit then Ok permit.thread else Err (returned permit)) }
     {
         if !self.holds(&permit) {
             return Err(Returned {
@@ -51,26 +44,25 @@ impl Replay<'_> {
             });
         }
         let Permit { thread, steps: _ } = permit;
+        Ok(thread)
+    }
+
+    // Makes the step of the permit, and answers the thread's count; or gives the permit back.
+    pub fn perform(&mut self, permit: Permit) -> Result<u16, Returned>
+        ensures answer { result ≡ (performed self.old permit).answer }
+        ensures after { Became self.old (performed self.old permit).after self.new }
+    {
+        let thread = self.taken(permit)?;
         self.step(thread);
         Ok(self.machine().count(thread))
     }
 
     // Takes the permit and makes no step; or gives the permit back.
     pub fn hand_back(&mut self, permit: Permit) -> Result<(), Returned>
-        ensures answer { result ≡ (hands_back (shown self.old) permit).answer }
-        ensures after { shown self.new ≡ (hands_back (shown self.old) permit).after }
-        ensures parts { SameParts self.old self.new }
+        ensures answer { result ≡ (handed_back self.old permit).answer }
+        ensures after { Became self.old (handed_back self.old permit).after self.new }
     {
-        if !self.holds(&permit) {
-            return Err(Returned {
-                permit,
-                fault: Fault::WrongPermit,
-            });
-        }
-        let Permit {
-            thread: _,
-            steps: _,
-        } = permit;
+        let _ = self.taken(permit)?;
         self.out = None;
         Ok(())
     }
@@ -78,8 +70,7 @@ impl Replay<'_> {
     // The step of a permitted thread, after which no permit is out.
     pub(crate) fn step(&mut self, thread: u8)
         requires { permitted (program_of self.old) (trace_of self.old) (shown self.old).progress thread ≡ true }
-        ensures after { shown self.new ≡ stepped (program_of self.old) (shown self.old) thread }
-        ensures parts { SameParts self.old self.new }
+        ensures { Became self.old (stepped (program_of self.old) (shown self.old) thread) self.new }
     {
         self.out = None;
         self.follower.advance(thread);

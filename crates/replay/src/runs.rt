@@ -1,9 +1,11 @@
 // Runs under a scheduler, and how a replay ends.
+#![tactic(auto, unfolding(crate::specs::Replays::shown))]
+
 ghost use Rattle.std.specs.Prelude.{◌≡◌, true};
 ghost use Rattle.schedule.specs.Strategies.{Picks, strategy, tells};
 ghost use Rattle.following.specs.Following.{permitted};
-ghost use Rattle.replay.specs.Calls.{end_of, offers, runs, stepped};
-ghost use Rattle.replay.specs.Replays.{SameParts, program_of, shown, trace_of};
+ghost use Rattle.replay.specs.Calls.{end_of, stepped};
+ghost use Rattle.replay.specs.Replays.{Became, offered, program_of, ran, shown, trace_of};
 
 use crate::faults::Fault;
 use crate::{Ending, Replay};
@@ -15,29 +17,19 @@ const MOST: u32 = 1_048_575;
 impl Replay<'_> {
     // The threads that are permitted.
     fn offer(&self) -> ThreadSet
-        ensures { result ≡ offers (program_of self.now) (trace_of self.now) (shown self.now).progress }
+        ensures { result ≡ offered self.now }
     {
         let follower = &self.follower;
-        ThreadSet::of([
-            follower.permitted(1),
-            follower.permitted(2),
-            follower.permitted(3),
-            follower.permitted(4),
-            follower.permitted(5),
-            follower.permitted(6),
-            follower.permitted(7),
-            follower.permitted(8),
-        ])
+        ThreadSet::of([1, 2, 3, 4, 5, 6, 7, 8].map(|thread| follower.permitted(thread)))
     }
 
     // The step of a permitted thread, and the threads permitted after it. A local step changes only its own thread, so
     // that the others need not be asked again.
     fn step_offered(&mut self, offer: ThreadSet, thread: u8) -> ThreadSet
-        requires offered { offer ≡ offers (program_of self.old) (trace_of self.old) (shown self.old).progress }
+        requires offered { offer ≡ offered self.old }
         requires permitted { permitted (program_of self.old) (trace_of self.old) (shown self.old).progress thread ≡ true }
-        ensures offered { result ≡ offers (program_of self.new) (trace_of self.new) (shown self.new).progress }
-        ensures after { shown self.new ≡ stepped (program_of self.old) (shown self.old) thread }
-        ensures parts { SameParts self.old self.new }
+        ensures offered { result ≡ offered self.new }
+        ensures after { Became self.old (stepped (program_of self.old) (shown self.old) thread) self.new }
     {
         let local = self.follower.is_local(thread);
         self.step(thread);
@@ -60,18 +52,18 @@ impl Replay<'_> {
                 steps,
             });
         }
-        match self.follower.first_unused() {
-            Some(object) => Err(Fault::Unused { object, steps }),
-            None => Ok(Ending::Complete { steps }),
-        }
+        self.follower
+            .first_unused()
+            .map_or(Ok(Ending::Complete { steps }), |object| {
+                Err(Fault::Unused { object, steps })
+            })
     }
 
     // Steps the permitted thread that the scheduler names, and tells it, until none is permitted or the budget is used up.
     pub fn run<S: Scheduler>(&mut self, budget: u32, scheduler: &mut S) -> Result<Ending, Fault>
-        ensures answer { result ≡ (runs (program_of self.old) (trace_of self.old) budget (shown self.old) (strategy S.rule S.next scheduler.old)).answer }
-        ensures after { shown self.new ≡ (runs (program_of self.old) (trace_of self.old) budget (shown self.old) (strategy S.rule S.next scheduler.old)).after }
-        ensures parts { SameParts self.old self.new }
-        ensures scheduler { scheduler.new ≡ tells S.rule S.next scheduler.old (runs (program_of self.old) (trace_of self.old) budget (shown self.old) (strategy S.rule S.next scheduler.old)).told }
+        ensures answer { result ≡ (ran self.old budget (strategy S.rule S.next scheduler.old)).answer }
+        ensures after { Became self.old (ran self.old budget (strategy S.rule S.next scheduler.old)).after self.new }
+        ensures scheduler { scheduler.new ≡ tells S.rule S.next scheduler.old (ran self.old budget (strategy S.rule S.next scheduler.old)).told }
         ensures picks { Picks (strategy S.rule S.next scheduler.old) }
     {
         if self.out.is_some() {

@@ -1,4 +1,6 @@
 // A new replay, and what it holds.
+#![tactic(auto, unfolding(crate::specs::Replays::shown))]
+
 ghost use Rattle.std.specs.Prelude.{◌≡◌};
 ghost use Rattle.machine.specs.View.{view};
 ghost use Rattle.replay.specs.Promise.{ReplayPromise};

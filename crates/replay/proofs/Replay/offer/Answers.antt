@@ -1,14 +1,12 @@
-use Rattle.std.proofs.Common.{[], ◌∷◌, ◌∙◌}
+use Rattle.std.proofs.Common.{rules, ◌∷◌, [], List, ap, Bool, ◌∙◌}
 use Rattle.schedule.specs.Threads.{set_of}
-use Rattle.replay.specs.Replays.{shown}
+use Rattle.following.specs.Following.{permitted}
+use Rattle.replay.specs.Replays.{shown, program_of, trace_of}
+use Rattle.replay.proofs.Mapped.{mapped}
 use Rattle.replay.proofs.Replay.offer.Goals as goal
 
 pub returns : goal.returns
 unfolding shown set_of
 returns c =
-    c.of.ensures
-    ∙ (λ j. record {
-      offered =
-          c.permitted.ensures j ∷ c.permitted-2.ensures j ∷ c.permitted-3.ensures j ∷ c.permitted-4.ensures j
-          ∷ c.permitted-5.ensures j ∷ c.permitted-6.ensures j ∷ c.permitted-7.ensures j ∷ c.permitted-8.ensures j ∷ [];
-    })
+    let r = c.args.self.now in
+    c.of.ensures ∙ ap (λ (l : List Bool). record { offered = l }) (mapped _ (permitted (program_of r) (trace_of r) (shown r).progress) _ (λ x y q h. search rules) (1 ∷ 2 ∷ 3 ∷ 4 ∷ 5 ∷ 6 ∷ 7 ∷ 8 ∷ []) _ c.map.ensures.items 0)
