@@ -131,12 +131,9 @@ impl Reader<'_> {
         ensures value { over (λ v. (map vec_items (vec_items v), self.new.at)) result ≡ repeated (reading.text self.old.bytes.now) count self.old.at [] }
         ensures bytes { self.new.bytes ≡ self.old.bytes }
     {
-        let Room {
-            mut texts,
-            mut spares,
-        } = room;
-        for _ in 0..count {
-            let text = self.text(spares.pop().unwrap())?;
+        let Room { mut texts, spares } = room;
+        for spare in spares.into_iter().take(usize::from(count)) {
+            let text = self.text(spare)?;
             texts.push_reserved(text);
         }
         Ok(texts)

@@ -8,7 +8,7 @@ use Rattle.machine.proofs.Totals.{steps_summed}
 use Rattle.machine.proofs.Machine.steps.Goals as goal
 
 pub sum-requires-clause-fits : goal.sum-requires-clause-fits
-sum-requires-clause-fits c = fits_from_length _ _ 8 _ (at_most_from_yields_List (YieldsList-from_slice c.iter.result.rest.now cc) (grind arith)) c.map.ensures.closure (omega arith) (λ x r q k. search (rules, tests))
+sum-requires-clause-fits c = fits_from_length _ _ 8 _ (at_most_from_yields_List (YieldsList-from_slice c.args.self.now.threads cc) (grind arith)) c.map.ensures.closure (omega arith) (λ x r q k. search (rules, tests))
 
 pub returns : goal.returns
 returns c =
