@@ -4,9 +4,13 @@ use Rattle.std.specs.Global.{Vec}
 use Rattle.program.specs.declared.Instruction.{Instruction}
 use Rattle.program.specs.Form.{Parts}
 
+-- empty, with places for n elements
+abbrev pub spare_for : {A : Type 0} → ℕ → Vec A → Bool
+spare_for n v = vec_len v == 0 && nat_le n (vec_capacity v)
+
 -- empty, with places for 128 instructions
 abbrev pub spare : Vec Instruction → Bool
-spare v = vec_len v == 0 && nat_le 128 (vec_capacity v)
+spare = spare_for 128
 
 -- what a thread's vector holds, and the place after it
 abbrev pub listed : Vec Instruction × ℕ → List Instruction × ℕ

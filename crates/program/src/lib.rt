@@ -5,12 +5,14 @@ pub mod code;
 pub mod faults;
 mod memory;
 pub mod read;
+mod reserve;
 pub mod text;
 
 ghost use Rattle.std.specs.Prelude.{◌≡◌, ◌≤◌, true, map, length, vec_items, vec_len};
 ghost use Rattle.program.specs.Form.{each, text_fits, limits_fit};
 
 pub use memory::Room;
+pub use reserve::spares;
 
 // One instruction; docs/MACHINE.md says what each code means.
 #[derive(Clone, Copy, PartialEq, Eq, Debug)]

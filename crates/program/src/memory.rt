@@ -4,6 +4,7 @@ ghost use Rattle.program.specs.Form.{each};
 ghost use Rattle.program.specs.Rooms.{spare};
 
 use crate::Instruction;
+use crate::reserve::spares;
 use std::alloc::{AllocError, Global};
 
 // Room for eight threads of 128 instructions; reading a program into it allocates nothing.
@@ -19,23 +20,13 @@ pub struct Room {
     ghost spared: { each spare spares.items ≡ true },
 }
 
-// An empty vector with a place for each instruction of a thread.
-fn spare_text(heap: Global) -> Result<Vec<Instruction>, AllocError>
-    ensures { IfOk result (λ v. spare v ≡ true) }
-{
-    Vec::with_capacity(heap, 128)
-}
-
 impl Room {
     // Reserves all the memory that a program can take.
     pub fn reserve(heap: Global) -> Result<Room, AllocError>
         ensures { IfOk result (λ m. (vec_len m.texts ≡ 0) × (vec_len m.spares ≡ 8)) }
     {
         let texts = Vec::with_capacity(heap, 8)?;
-        let mut spares = Vec::with_capacity(heap, 8)?;
-        for _ in 0..8u8 {
-            spares.push_reserved(spare_text(heap)?);
-        }
+        let spares = spares(heap, 8, 128)?;
         Ok(Room { texts, spares })
     }
 }

@@ -5,3 +5,4 @@ pub mod Exactly
 pub mod Texts
 pub mod Logs
 pub mod Runs
+pub mod Acts

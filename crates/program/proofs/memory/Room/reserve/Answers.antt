@@ -1,8 +1,0 @@
-use Rattle.std.proofs.Common.{vec_items, arith}
-use Rattle.program.specs.Rooms.{spare}
-use Rattle.program.proofs.Each.{each_push}
-use Rattle.program.proofs.memory.Room.reserve.Goals as goal
-
-pub loop-preserved : goal.loop-preserved
-loop-preserved c =
-    (omega arith, omega arith, each_push spare (vec_items c.loop.spares) _ c.push_reserved.ensures.items c.loop.invariant.2 c.in_ok-spare_text.ensures)
