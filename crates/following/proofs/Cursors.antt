@@ -1,10 +1,11 @@
 -- To move a cursor past its event is to use that event.
-use Rattle.std.proofs.Common.{◌≡◌, ℕ, zero, suc, ◌+◌, ◌-◌, ◌<◌, ◌≤◌, Bool, true, false, cond, eqb, List, [], ◌∷◌, length, get_or, drop, set, sym, refl, ap, ◌∙◌, subst, add-one, arith, drop-cons, get_or-set_other, get_or-set_same}
+use Rattle.std.proofs.Common.{◌≡◌, ℕ, zero, suc, ◌+◌, ◌-◌, ◌<◌, ◌≤◌, Bool, true, false, cond, eqb, List, [], ◌∷◌, length, length-drop, take, drop, set, not, sym, refl, ap, ◌∙◌, subst, arith, get_or-set_other, get_or-set_same}
 use mathlib.Core.Path.{fun_ext}
 use mathlib.Core.Option.{some}
-use Rattle.std.proofs.lemmas.List.{drop_all, drop-drop}
+use Rattle.std.proofs.lemmas.List.{drop-drop, take_all}
 use Rattle.std.proofs.lemmas.Bool.{eqb-true, eqb-false, eq-eqb}
 use Rattle.std.proofs.lemmas.Bool.Decides.{nat_tests}
+use Rattle.std.specs.List.{prefix_len}
 use Rattle.trace.specs.declared.Event.{Event}
 use Rattle.trace.specs.Sound.{who}
 use Rattle.following.specs.Following.{first, first_of, spend}
@@ -135,9 +136,10 @@ cursor_set cs i n h = fun_ext (λ k. go k (eqb k (suc i)) refl)
     go zero false e = refl
     go (suc k) false e = get_or-set_other cs i k n 0 (λ (z : k ≡ i). eqb-false (suc k) (suc i) e (ap suc z))
 
--- one turn of the loop
-pub from_next : (i k : ℕ) (q : List Event) (d : Event) → k < length q → from i k q ≡ cond (eqb (who (get_or q k d)) i) k (from i (k + 1) q)
-from_next i k q d h = rw (add-one, drop-cons q k d) refl
+-- thread i's first event stands behind the events of others
+past_others : (i k : ℕ) (q : List Event) → k + prefix_len (λ e. not (eqb (who e) i)) q ≡ seek i k q
+past_others i k [] = omega arith
+past_others i k (e ∷ q) = let again = past_others i (suc k) q in grind (arith, nat_tests)
 
-pub from_end : (i k : ℕ) (q : List Event) → length q ≤ k → from i k q ≡ k
-from_end i k q h = ap (seek i k) (drop_all k q h)
+pub from_others : (i k : ℕ) (q : List Event) → k + prefix_len (λ e. not (eqb (who e) i)) (take (length q - k) (drop k q)) ≡ from i k q
+from_others i k q = ap (λ (l : List Event). k + prefix_len (λ e. not (eqb (who e) i)) l) (take_all (length q - k) (drop k q) (omega (arith, length-drop k q))) ∙ past_others i k (drop k q)

@@ -1,17 +1,27 @@
--- The steps of a loop that looks for the first number that passes a test.
-use Rattle.std.proofs.Common.{◌≡◌, ℕ, suc, ◌+◌, ◌-◌, ◌<◌, ◌≤◌, Bool, true, false, Some, None, sym, ap, ◌∙◌, add-one, arith}
-use Rattle.std.proofs.lemmas.Bool.{cond-true, cond-false}
-use Rattle.following.specs.Ends.{first_from}
+-- The first number of a range that passes a test.
+use Rattle.std.proofs.Common.{◌≡◌, ℕ, zero, suc, ◌+◌, ◌<◌, ◌≤◌, Bool, true, false, cond, ltb, Some, None, Option, refl, ap, ◌∙◌, add-one, arith}
+use Rattle.std.specs.List.{find, range_with_len}
+use Rattle.std.specs.Option.{option_and_then}
+use Rattle.std.proofs.lemmas.Bool.{cond-true, lt-ltb}
+use Rattle.refusal.specs.declared.Object.{Object}
+use Rattle.trace.specs.Drafts.{name_at}
+use Rattle.following.specs.Ends.{first_from, name_found}
 
-module _ (test : ℕ → Bool) (k end : ℕ) where
-  one_more : k < end → first_from test k (end - k) ≡ first_from test k (suc (end - (k + 1)))
-  one_more h = ap (first_from test k) (let e : end - k ≡ suc (end - (k + 1)) = omega arith in e)
+pub found_first : (test : ℕ → Bool) (k n : ℕ) → find test (range_with_len k n) ≡ first_from test k n
+found_first test k zero = refl
+found_first test k (suc n) = ap (cond (test k) (Some k)) (found_first test (k + 1) n ∙ ap (λ (m : ℕ). first_from test m n) (add-one k))
 
-  pub passed : k < end → test k ≡ false → first_from test k (end - k) ≡ first_from test (k + 1) (end - (k + 1))
-  passed h e = one_more h ∙ cond-false _ _ _ e ∙ ap (λ (n : ℕ). first_from test n (end - (k + 1))) (sym (add-one k))
+-- the object at a place, if there is one
+abbrev pub placed : ℕ → Option Object
+placed k = cond (ltb k 32) (Some (name_at k)) None
 
-  pub found : k < end → test k ≡ true → first_from test k (end - k) ≡ Some k
-  found h e = one_more h ∙ cond-true _ _ _ e
-
-  pub none_left : end ≤ k → first_from test k (end - k) ≡ None
-  none_left h = ap (first_from test k) (let e : end - k ≡ 0 = omega arith in e)
+-- the first place that passes a test is that of the first object that does, where the two tests agree
+pub first_placed : (test same : ℕ → Bool) → ((j : ℕ) → j < 32 → test j ≡ same j) → (k n : ℕ) → k + n ≤ 32 → option_and_then placed (find test (range_with_len k n)) ≡ name_found (first_from same k n)
+first_placed test same agree k zero h = refl
+first_placed test same agree k (suc n) h =
+    let later = first_placed test same agree (k + 1) n (omega arith) ∙ ap (λ (m : ℕ). name_found (first_from same m n)) (add-one k) in
+    ap (λ b. option_and_then placed (cond b (Some k) (find test (range_with_len (k + 1) n)))) (agree k (omega arith)) ∙ go later (same k)
+  where
+    go : option_and_then placed (find test (range_with_len (k + 1) n)) ≡ name_found (first_from same (suc k) n) → (b : Bool) → option_and_then placed (cond b (Some k) (find test (range_with_len (k + 1) n))) ≡ name_found (cond b (Some k) (first_from same (suc k) n))
+    go later true = cond-true (ltb k 32) (Some (name_at k)) None (lt-ltb k 32 (omega arith))
+    go later false = later

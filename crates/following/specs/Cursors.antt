@@ -1,5 +1,6 @@
 -- How what is used of a sequence is kept: for each thread the place of its first unused event, its cursor.
-use Rattle.std.specs.Prelude.{◌≡◌, ℕ, suc, cond, List, [], ◌∷◌, drop, ◌==◌, nat_lt, slice_index}
+use Rattle.std.specs.Prelude.{◌≡◌, ℕ, suc, cond, List, [], ◌∷◌, drop, map, ◌==◌, nat_lt, slice_index}
+use Rattle.std.specs.List.{range_with_len}
 use Rattle.trace.specs.declared.Event.{Event}
 use Rattle.trace.specs.Sound.{who}
 
@@ -31,4 +32,4 @@ Settled i k q = from i k q ≡ k
 
 -- where each thread's first event stands
 abbrev pub firsts : List Event → List ℕ
-firsts q = from 1 0 q ∷ from 2 0 q ∷ from 3 0 q ∷ from 4 0 q ∷ from 5 0 q ∷ from 6 0 q ∷ from 7 0 q ∷ from 8 0 q ∷ []
+firsts q = map (λ i. from i 0 q) (range_with_len 1 8)

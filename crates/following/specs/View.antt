@@ -1,5 +1,6 @@
 -- What the arrays of a follower mean.
-use Rattle.std.specs.Prelude.{◌≡◌, ℕ, ◌+◌, ◌-◌, ◌<◌, ◌≤◌, Bool, true, false, cond, List, [], length, drop, Some, None, Option as Answer, nat_lt, slice_index, slice_index_or, slice_set}
+use Rattle.std.specs.Prelude.{◌≡◌, ℕ, ◌+◌, ◌-◌, ◌<◌, ◌≤◌, Bool, cond, List, [], length, drop, map, replicate, Some, None, Option as Answer, nat_lt, slice_index, slice_index_or, slice_set}
+use Rattle.std.specs.List.{list_any, range_with_len}
 use Rattle.std.proofs.Math.Option.{Option, none, some}
 use Rattle.machine.specs.declared.Item.{Item}
 use Rattle.machine.specs.Machine.{Object, variable}
@@ -28,6 +29,10 @@ rest u k q = cond (nat_lt k 16) (unused (cursor (cursors_at u k)) 0 q) (drop (sl
 -- the events of each object that are not yet used
 abbrev pub left : Trace → Used → Object → List Event
 left t u o = rest u (position o) (row t (position o))
+
+-- whether one of the cursors, or the front, at place k stands before the end of the sequence q
+abbrev pub before_end : Used → ℕ → List Event → Bool
+before_end u k q = cond (nat_lt k 16) (list_any (λ n. nat_lt n (length q)) (cursors_at u k)) (nat_lt (slice_index u.fronts (k - 16)) (length q))
 
 -- how far the arrays say that a replay has come
 abbrev pub progress : Trace → Stage → Progress
@@ -70,9 +75,9 @@ abbrev pub spent : Trace → ℕ → Answer Access → Used → Used
 spent t i None u = u
 spent t i (Some a) u = marked u (position (named a.object)) i (row t (position (named a.object)))
 
--- each of the first n variables' cursors stand at the threads' first events
-abbrev pub Fresh : Trace → ℕ → List (List ℕ) → Type 0
-Fresh t n us = (k : ℕ) → k < n → slice_index_or us k [] ≡ firsts (row t k)
+-- no event is used: the cursors stand at the threads' first events, and the fronts at the beginning
+abbrev pub fresh : Trace → Used
+fresh t = record { cursors = map (λ k. firsts (row t k)) (range_with_len 0 16); fronts = replicate 16 0 }
 
 -- an answer as an option of the definitions
 abbrev pub lifted : {A : Type 0} → Answer A → Option A
@@ -89,8 +94,3 @@ pub record Inside (i k : ℕ) : Type 0 where
 abbrev pub Due : Trace → Used → ℕ → Answer Access → Type 0
 Due t u i None = Unit {0}
 Due t u i (Some a) = Inside i (position (named a.object)) × (next_at u (position (named a.object)) i < length (row t (position (named a.object))))
-
--- whether one of the cursors stands before the end
-abbrev pub SomeBefore : Bool → List ℕ → ℕ → Type 0
-SomeBefore true cs end = (k : ℕ) × (k < length cs) × (slice_index cs k < end)
-SomeBefore false cs end = (k : ℕ) → k < length cs → end ≤ slice_index cs k

@@ -3,5 +3,6 @@
 
 pub mod follower;
 mod seek;
+mod spot;
 mod stage;
 mod used;

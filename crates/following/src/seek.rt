@@ -2,6 +2,7 @@
 ghost use Rattle.std.specs.Prelude.{◌≡◌, ◌<◌, ◌≤◌, length};
 ghost use Rattle.following.specs.Cursors.{firsts, from};
 
+use std::array;
 use trace::Event;
 
 // The place of the thread's first event at or after the start, or the end.
@@ -10,11 +11,10 @@ pub(crate) fn seek(sequence: &[Event], thread: u8, start: u16) -> u16
     requires within { start ≤ length sequence.now }
     ensures { result ≡ from thread start sequence.now }
 {
-    let mut k = start;
-    while (k as usize) < sequence.len() && sequence[k as usize].thread() != thread {
-        k += 1;
-    }
-    k
+    let others = sequence[start as usize..]
+        .iter()
+        .take_while(|event| event.thread() != thread);
+    start + others.count() as u16
 }
 
 // Where each thread's first event stands.
@@ -22,14 +22,5 @@ pub(crate) fn first_places(sequence: &[Event]) -> [u16; 8]
     requires { length sequence.now < 65536 }
     ensures { result ≡ firsts sequence.now }
 {
-    [
-        seek(sequence, 1, 0),
-        seek(sequence, 2, 0),
-        seek(sequence, 3, 0),
-        seek(sequence, 4, 0),
-        seek(sequence, 5, 0),
-        seek(sequence, 6, 0),
-        seek(sequence, 7, 0),
-        seek(sequence, 8, 0),
-    ]
+    array::from_fn(|place| seek(sequence, place as u8 + 1, 0))
 }

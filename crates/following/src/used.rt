@@ -1,10 +1,12 @@
 // What is used of a trace.
-ghost use Rattle.std.specs.Prelude.{◌≡◌, ◌+◌, ◌<◌, length, drop, replicate};
+ghost use Rattle.std.specs.Prelude.{◌≡◌, ◌+◌, ◌<◌, length, drop};
+ghost use Rattle.following.specs.Cursors.{firsts};
 ghost use Rattle.following.specs.Following.{first};
-ghost use Rattle.following.specs.Ends.{some_event};
-ghost use Rattle.following.specs.View.{Due, Fresh, Inside, SettledIn, Sized, SomeBefore, lifted, marked, next_at, rest, row, spent};
+ghost use Rattle.following.specs.View.{Due, before_end, fresh, lifted, marked, next_at, row, spent};
 
 use crate::seek::{first_places, seek};
+use crate::spot::Spot;
+use std::array;
 use trace::access::place_of;
 use trace::next::Access;
 use trace::{Event, Trace};
@@ -20,98 +22,81 @@ pub(crate) struct Used {
     fronts: [u16; 16],
 }
 
+#[tactic(auto, using(crate::proofs::Lengths::short))]
 impl Used {
     // No event is used: each cursor stands at its thread's first event.
     pub(crate) fn none(trace: &Trace) -> Used
-        ensures long { length result.cursors ≡ 16 }
-        ensures cursors { Fresh trace.now 16 result.cursors }
-        ensures fronts { result.fronts ≡ replicate 16 0 }
+        ensures { result ≡ fresh trace.now }
     {
-        let mut cursors = [[0; 8]; 16];
-        for place in 0..VARIABLES {
-            cursors[place] = first_places(trace.sequence_at(place));
-        }
         Used {
-            cursors,
+            cursors: array::from_fn(
+                |place|
+                    ensures { result ≡ firsts (row trace.entry.now place) }
+                { first_places(trace.sequence_at(place)) },
+            ),
             fronts: [0; 16],
         }
     }
 
     // Where the thread's next event stands in the sequence at the place.
-    fn next(&self, thread: u8, place: usize) -> u16
-        requires { Inside thread place }
-        ensures { result ≡ next_at self.now place thread }
+    fn next(&self, spot: Spot) -> u16
+        ensures { result ≡ next_at self.now spot.place spot.thread }
     {
-        if place < VARIABLES {
-            return self.cursors[place][thread as usize - 1];
+        if spot.place < VARIABLES {
+            return self.cursors[spot.place][spot.thread as usize - 1];
         }
-        self.fronts[place - VARIABLES]
+        self.fronts[spot.place - VARIABLES]
     }
 
     // The unused event that a step of the thread could use, of the sequence at the place.
-    pub(crate) fn due(&self, trace: &Trace, thread: u8, place: usize) -> Option<Event>
-        requires { Inside thread place }
-        ensures { lifted result ≡ first (drop (next_at self.now place thread) (row trace.now place)) }
+    pub(crate) fn due(&self, trace: &Trace, spot: Spot) -> Option<Event>
+        ensures { lifted result ≡ first (drop (next_at self.now spot.place spot.thread) (row trace.now spot.place)) }
     {
-        let next = self.next(thread, place) as usize;
-        let sequence = trace.sequence_at(place);
-        if next < sequence.len() {
-            return Some(sequence[next]);
-        }
-        None
+        trace
+            .sequence_at(spot.place)
+            .get(self.next(spot) as usize)
+            .copied()
     }
 
     // Marks the event of the thread's access, if it has one, as used.
     pub(crate) fn spend(&mut self, trace: &Trace, thread: u8, access: Option<Access>)
-        requires sized { Sized self.old }
-        requires due { Due trace.now self.old thread access }
+        requires { Due trace.now self.old thread access }
         ensures { self.new ≡ spent trace.now thread access self.old }
     {
         if let Some(access) = access {
-            self.mark(trace, thread, place_of(access.object));
+            let spot = Spot {
+                thread,
+                place: place_of(access.object),
+            };
+            self.mark(trace, spot);
         }
     }
 
     // Marks the thread's next event in the sequence at the place as used.
-    fn mark(&mut self, trace: &Trace, thread: u8, place: usize)
-        requires inside { Inside thread place }
-        requires sized { Sized self.old }
-        requires short { length (row trace.now place) < 65536 }
-        requires due { next_at self.old place thread < length (row trace.now place) }
-        ensures { self.new ≡ marked self.old place thread (row trace.now place) }
+    fn mark(&mut self, trace: &Trace, spot: Spot)
+        requires { next_at self.old spot.place spot.thread < length (row trace.now spot.place) }
+        ensures { self.new ≡ marked self.old spot.place spot.thread (row trace.now spot.place) }
     {
-        let next = self.next(thread, place) + 1;
-        if place < VARIABLES {
-            self.cursors[place][thread as usize - 1] = seek(trace.sequence_at(place), thread, next);
+        let next = self.next(spot) + 1;
+        if spot.place < VARIABLES {
+            let cursor = seek(trace.sequence_at(spot.place), spot.thread, next);
+            self.cursors[spot.place][spot.thread as usize - 1] = cursor;
         } else {
-            self.fronts[place - VARIABLES] = next;
+            self.fronts[spot.place - VARIABLES] = next;
         }
     }
 
     // Whether an event of the sequence at the place is unused.
     pub(crate) fn some_left(&self, trace: &Trace, place: usize) -> bool
-        requires sized { Sized self.now }
-        requires settled { SettledIn trace.now self.now }
-        requires place { place < 32 }
-        ensures { result ≡ some_event (rest self.now place (row trace.now place)) }
+        requires { place < 32 }
+        ensures { result ≡ before_end self.now place (row trace.now place) }
     {
         let end = trace.sequence_at(place).len();
         if place < VARIABLES {
-            let cursors: &[u16] = &self.cursors[place];
-            return some_before(cursors, end);
+            return self.cursors[place]
+                .iter()
+                .any(|cursor| (*cursor as usize) < end);
         }
         (self.fronts[place - VARIABLES] as usize) < end
     }
-}
-
-// Whether a cursor stands before the end.
-fn some_before(cursors: &[u16], end: usize) -> bool
-    ensures { SomeBefore result cursors.now end }
-{
-    for cursor in cursors {
-        if (*cursor as usize) < end {
-            return true;
-        }
-    }
-    false
 }

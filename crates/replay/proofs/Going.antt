@@ -1,5 +1,5 @@
 -- One turn of a run.
-use Rattle.std.proofs.Common.{◌≡◌, ℕ, zero, suc, ◌-◌, true, false, [], ◌∷◌, sym, refl, ap, ◌∙◌, subst, arith}
+use Rattle.std.proofs.Common.{◌≡◌, ℕ, suc, true, false, [], ◌∷◌, sym, ap, ◌∙◌, subst}
 use Rattle.program.specs.declared.Program.{Program}
 use Rattle.machine.specs.Machine.{Code, here}
 use Rattle.machine.specs.View.{code_of}
@@ -11,27 +11,19 @@ use Rattle.schedule.specs.Strategies.{Told, Strategy, strategy, tells}
 use Rattle.schedule.specs.Members.{nonempty_some, set_with}
 use Rattle.following.specs.Following.{Progress, advance, local_at, permitted}
 use Rattle.following.proofs.Stays.{stays}
-use Rattle.replay.specs.Calls.{Replaying, stepped, end_of, Ran, rests, led_by, offers, goes}
+use Rattle.replay.specs.Calls.{Replaying, stepped, Ran, led_by, offers, goes}
 use Rattle.replay.proofs.Reached.{offers_has}
 
-abbrev pub tell : ThreadSet → ℕ → Told
+abbrev tell : ThreadSet → ℕ → Told
 tell o i = record { offer = o; thread = i }
 
 module _ (p : Code) (t : History) where
-  goes_end : (n : ℕ) (s : Replaying) (f : Strategy) → empty (offers p t s.progress) ≡ true → goes p t n s f ≡ rests (end_of p t s) s
-  goes_end zero s f h = rw h
-  goes_end (suc n) s f h = rw h
-
-  goes_step : (n : ℕ) (s : Replaying) (f : Strategy) → (n ≡ 0 → ⊥) → empty (offers p t s.progress) ≡ false → goes p t n s f ≡ (let x = tell (offers p t s.progress) (f [] (offers p t s.progress)) in led_by x (goes p t (n - 1) (stepped p s x.thread) (λ h. f (x ∷ h))))
-  goes_step zero s f z h = absurd (z refl)
-  goes_step (suc n) s f z h = let e : suc n - 1 ≡ n = omega arith in rw (e, h)
+  goes_step : (n : ℕ) (s : Replaying) (f : Strategy) → empty (offers p t s.progress) ≡ false → goes p t (suc n) s f ≡ (let x = tell (offers p t s.progress) (f [] (offers p t s.progress)) in led_by x (goes p t n (stepped p s x.thread) (λ h. f (x ∷ h))))
+  goes_step n s f h = rw h
 
   -- o is what is offered, and i the thread that is named
-  pub stops : (n : ℕ) (s : Replaying) (f : Strategy) (o : ThreadSet) → o ≡ offers p t s.progress → empty o ≡ true → goes p t n s f ≡ rests (end_of p t s) s
-  stops n s f o e h = goes_end n s f (subst (λ (x : ThreadSet). empty x ≡ true) e h)
-
-  goes_on : (n : ℕ) (s : Replaying) (f : Strategy) (o : ThreadSet) (i : ℕ) → o ≡ offers p t s.progress → i ≡ f [] o → empty o ≡ false → (n ≡ 0 → ⊥) → goes p t n s f ≡ led_by (tell o i) (goes p t (n - 1) (stepped p s i) (λ h. f (tell o i ∷ h)))
-  goes_on n s f o i e e2 h z = rw (e2, e) (goes_step n s f z (subst (λ (x : ThreadSet). empty x ≡ false) e h))
+  goes_on : (n : ℕ) (s : Replaying) (f : Strategy) (o : ThreadSet) (i : ℕ) → o ≡ offers p t s.progress → i ≡ f [] o → empty o ≡ false → goes p t (suc n) s f ≡ led_by (tell o i) (goes p t n (stepped p s i) (λ h. f (tell o i ∷ h)))
+  goes_on n s f o i e e2 h = rw (e2, e) (goes_step n s f (subst (λ (x : ThreadSet). empty x ≡ false) e h))
 
 module _ {S : Type 0} (rule : S → ThreadSet → ℕ) (next : S → ThreadSet → ℕ → S) where
   -- two runs, of schedulers a and b, come out alike
@@ -44,11 +36,11 @@ module _ {S : Type 0} (rule : S → ThreadSet → ℕ) (next : S → ThreadSet �
   alike_trans h k = record { answer = h.answer ∙ k.answer; after = h.after ∙ k.after; scheduler = h.scheduler ∙ k.scheduler }
 
   -- one turn of the loop
-  pub turn : (p p' : Code) (t t' : History) (n : ℕ) (s s' : Replaying) (c c' : S) (o : ThreadSet) (i : ℕ) → p' ≡ p → t' ≡ t → s' ≡ stepped p s i → c' ≡ next c o i → o ≡ offers p t s.progress → i ≡ rule c o → empty o ≡ false → (n ≡ 0 → ⊥)
-      → Alike c (goes p t n s (strategy rule next c)) c' (goes p' t' (n - 1) s' (strategy rule next c'))
-  turn p p' t t' n s s' c c' o i ep et es ec eo ei h z =
-      let e = goes_on p t n s (strategy rule next c) o i eo ei h z in
-      rw (ep, et, es, ec) (record { answer = ap (λ (r : Ran). r.answer) e; after = ap (λ (r : Ran). r.after) e; scheduler = ap (λ (r : Ran). tells rule next c r.told) e })
+  pub turn : (p p' : Code) (t t' : History) (n k : ℕ) (s s' : Replaying) (c c' : S) (o : ThreadSet) (i : ℕ) → p' ≡ p → t' ≡ t → s' ≡ stepped p s i → c' ≡ next c o i → o ≡ offers p t s.progress → i ≡ rule c o → empty o ≡ false → n ≡ suc k
+      → Alike c (goes p t n s (strategy rule next c)) c' (goes p' t' k s' (strategy rule next c'))
+  turn p p' t t' n k s s' c c' o i ep et es ec eo ei h more =
+      let e = goes_on p t k s (strategy rule next c) o i eo ei h in
+      rw (ep, et, es, ec, more) (record { answer = ap (λ (r : Ran). r.answer) e; after = ap (λ (r : Ran). r.after) e; scheduler = ap (λ (r : Ran). tells rule next c r.told) e })
 
 -- the thread that is named is permitted
 pub named_permitted : (q : Program) (t : History) (r : Progress) (o : ThreadSet) (i : ℕ) → o ≡ offers (code_of q) t r → empty o ≡ false → ((k : ℕ) → has o k ≡ true → has o i ≡ true) → permitted (code_of q) t r i ≡ true

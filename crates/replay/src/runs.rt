@@ -19,8 +19,7 @@ impl Replay<'_> {
     fn offer(&self) -> ThreadSet
         ensures { result ≡ offered self.now }
     {
-        let follower = &self.follower;
-        ThreadSet::of([1, 2, 3, 4, 5, 6, 7, 8].map(|thread| follower.permitted(thread)))
+        ThreadSet::of([1, 2, 3, 4, 5, 6, 7, 8].map(|thread| self.follower.permitted(thread)))
     }
 
     // The step of a permitted thread, and the threads permitted after it. A local step changes only its own thread, so
@@ -69,22 +68,21 @@ impl Replay<'_> {
         if self.out.is_some() {
             return Err(Fault::PermitOut);
         }
-        let mut left = budget.min(MOST);
         let mut offer = self.offer();
-        'steps: loop {
+        'steps: for _step in 0..budget.min(MOST) {
             if offer.is_empty() {
-                return self.end();
-            }
-            if left == 0 {
-                return Ok(Ending::Spent {
-                    steps: self.steps(),
-                });
+                break;
             }
             let thread = scheduler.name(offer);
             let next = self.step_offered(offer, thread);
             scheduler.told(offer, thread);
             offer = next;
-            left -= 1;
         }
+        if offer.is_empty() {
+            return self.end();
+        }
+        Ok(Ending::Spent {
+            steps: self.steps(),
+        })
     }
 }

@@ -12,38 +12,28 @@ use trace::next::Access;
 // how many objects there are
 const OBJECTS: usize = 32;
 
+#[tactic(auto, unfolding(crate::specs::Followers::seen))]
 impl Follower<'_> {
     // The lowest thread that has made fewer steps than it counts.
     pub fn lowest_below(&self) -> Option<u8>
         ensures { result ≡ lowest_below (trace_of self.now) (seen self.now).machine }
     {
-        for thread in 1..9u8 {
-            if self.stage.below(self.trace, thread) {
-                return Some(thread);
-            }
-        }
-        None
+        (1..9).find(|thread| self.below(*thread))
     }
 
     // The first object with an unused event: variables, then semaphores, then locks.
     pub fn first_unused(&self) -> Option<Object>
         ensures { result ≡ first_unused (seen self.now).left }
     {
-        for place in 0..OBJECTS {
-            if self.stage.used.some_left(self.trace, place) {
-                return object_at(place);
-            }
-        }
-        None
+        (0..OBJECTS)
+            .find(|place| self.stage.used.some_left(self.trace, *place))
+            .and_then(object_at)
     }
 
     // The object of the thread's instruction; none where it is no event, or the thread has ended.
     pub fn object(&self, thread: u8) -> Option<Object>
         ensures { result ≡ at_event (here (program_of self.now) (seen self.now).machine thread) }
     {
-        match Access::next(&self.stage.machine, self.program, thread) {
-            None => None,
-            Some(access) => Some(access.object),
-        }
+        Access::next(&self.stage.machine, self.program, thread).map(|access| access.object)
     }
 }

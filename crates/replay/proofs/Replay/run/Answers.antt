@@ -1,14 +1,10 @@
-use Rattle.std.proofs.Common.{◌≡◌, ℕ, true, arith, sym, ap, ◌∙◌, subst}
+use Rattle.std.proofs.Common.{◌≡◌, ◌+◌, ◌-◌, ℕ, true, arith, sym, ap, ◌∙◌, subst}
 use Rattle.machine.specs.View.{code_of}
 use Rattle.schedule.specs.Threads.{has}
 use Rattle.trace.specs.Traces.{history, parts}
 use Rattle.replay.specs.Replays.{shown, program_of, trace_of}
-use Rattle.replay.proofs.Going.{stops, turn, alike_trans, named_permitted}
+use Rattle.replay.proofs.Going.{turn, alike_trans, named_permitted}
 use Rattle.replay.proofs.Replay.run.Goals as goal
-
-pub returns-then-is_empty-clause-scheduler : goal.returns-then-is_empty-clause-scheduler
-unfolding shown
-returns-then-is_empty-clause-scheduler g c = grind (arith, stops)
 
 pub step_offered-next-requires-clause-permitted : goal.step_offered-next-requires-clause-permitted
 unfolding shown
@@ -29,6 +25,6 @@ steps-preserved g c =
       offered = made.offered;
       alike =
           alike_trans d.rule d.next before.alike
-          (turn d.rule d.next (program_of n) (program_of m) (trace_of n) (trace_of m) c.steps.left (shown n) (shown m) c.steps.scheduler c.told.new.self c.steps.offer c.name-thread.result
-          (ap (λ x. code_of x.now) made.after.same.0) (ap (λ x. history (parts x.now)) made.after.same.1) made.after.shows c.told.ensures before.offered c.name-thread.ensures (sym c.is_empty.ensures ∙ c.if-is_empty.false) c.if-left-eq0.false);
+          (turn d.rule d.next (program_of n) (program_of m) (trace_of n) (trace_of m) (c.min-step-end.result - c.steps._step) (c.min-step-end.result - (c.steps._step + 1)) (shown n) (shown m) c.steps.scheduler c.told.new.self c.steps.offer c.name-thread.result
+          (ap (λ x. code_of x.now) made.after.same.0) (ap (λ x. history (parts x.now)) made.after.same.1) made.after.shows c.told.ensures before.offered c.name-thread.ensures (sym c.is_empty.ensures ∙ c.if-is_empty.false) (omega (arith, c.steps-test.true)));
     }

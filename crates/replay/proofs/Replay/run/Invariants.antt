@@ -1,4 +1,4 @@
-use Rattle.std.proofs.Common.{◌≡◌}
+use Rattle.std.proofs.Common.{◌≡◌, ◌-◌}
 use Rattle.schedule.specs.Strategies.{strategy}
 use Rattle.replay.specs.Calls.{goes}
 use Rattle.replay.specs.Replays.{SameParts, offered, program_of, shown, trace_of}
@@ -14,9 +14,6 @@ invariant-steps g l =
       offered : l.offer ≡ offered l.self;
       alike :
           Alike d.rule d.next
-          l.initial.scheduler (goes (program_of l.initial.self) (trace_of l.initial.self) l.initial.left (shown l.initial.self) (strategy d.rule d.next l.initial.scheduler))
-          l.scheduler (goes (program_of l.self) (trace_of l.self) l.left (shown l.self) (strategy d.rule d.next l.scheduler));
+          l.initial.scheduler (goes (program_of l.initial.self) (trace_of l.initial.self) (l._step-end) (shown l.initial.self) (strategy d.rule d.next l.initial.scheduler))
+          l.scheduler (goes (program_of l.self) (trace_of l.self) (l._step-end - l._step) (shown l.self) (strategy d.rule d.next l.scheduler));
     }
-
-abbrev pub decreases-steps : goal.decreases-steps
-decreases-steps g l = l.left

@@ -1,24 +1,16 @@
-use Rattle.std.proofs.Common.{sym, ◌∙◌}
+use Rattle.std.proofs.Common.{sym, refl, ◌∙◌, rules, tests}
+use Rattle.std.proofs.lemmas.Iterator.{YieldsList-from_range}
+use Rattle.std.proofs.lemmas.Iterator.Search.{find_from_yields_List}
+use Rattle.std.proofs.lemmas.Iterator.Adapters.{option_map_id}
 use Rattle.following.specs.Ends.{lowest_below}
 use Rattle.following.specs.Following.{below}
 use Rattle.following.specs.Followers.{seen, trace_of}
-use Rattle.following.proofs.Firsts.{passed, found, none_left}
+use Rattle.following.proofs.Firsts.{found_first}
 use Rattle.following.proofs.follower.Follower.lowest_below.Goals as goal
 
-pub returns-then-below : goal.returns-then-below
-unfolding lowest_below seen
-returns-then-below c =
-    let f = c.args.self.now in
-    sym (found (below (trace_of f) (seen f).machine) c.loop-thread.thread 9 c.loop-thread-test.true (sym c.below.ensures ∙ c.if-below.true)) ∙ c.loop-thread.invariant
-
-pub loop-thread-preserved : goal.loop-thread-preserved
-unfolding seen
-loop-thread-preserved c =
-    let f = c.args.self.now in
-    sym (passed (below (trace_of f) (seen f).machine) c.loop-thread.thread 9 c.loop-thread-test.true (sym c.below.ensures ∙ c.if-below.false)) ∙ c.loop-thread.invariant
-
 pub returns : goal.returns
-unfolding lowest_below
+unfolding lowest_below seen
 returns c =
-    let f = c.args.self.now in
-    sym (none_left (below (trace_of f) (seen f).machine) c.loop-thread.thread 9 c.loop-thread-test.false) ∙ c.loop-thread.invariant
+    sym (option_map_id c.find.result)
+    ∙ find_from_yields_List (below (trace_of c.args.self.now) (seen c.args.self.now).machine) _ _ _ c.find.ensures.ran (YieldsList-from_range 1 9 8 refl refl) (λ x b q k. search (rules, tests))
+    ∙ found_first (below (trace_of c.args.self.now) (seen c.args.self.now).machine) 1 8

@@ -1,7 +1,11 @@
-use Rattle.std.proofs.Common.{◌<◌, List, length, sym, subst}
-use Rattle.trace.specs.declared.Event.{Event}
-use Rattle.following.proofs.Lengths.{short}
+use Rattle.std.proofs.Common.{ℕ, List, [], replicate, ap, rules, tests}
+use Rattle.following.specs.declared.used.Used.{Used}
+use Rattle.following.specs.Cursors.{firsts}
+use Rattle.following.specs.View.{row}
+use Rattle.following.proofs.FromFn.{made_by}
 use Rattle.following.proofs.used.Used.none.Goals as goal
 
-pub first_places-requires : goal.first_places-requires
-first_places-requires c = subst (λ (q : List Event). length q < 65536) (sym c.sequence_at.ensures) (short c.args.trace.now c.loop-place.place)
+pub returns : goal.returns
+returns c =
+    let with : List (List ℕ) → Used = λ cs. record { cursors = cs; fronts = replicate 16 0 } in
+    ap with (made_by (λ k. firsts (row c.args.trace.now k)) _ (λ i y q k. search (rules, tests)) c.from_fn.result 16 [] c.from_fn.ensures.items)
