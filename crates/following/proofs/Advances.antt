@@ -73,7 +73,7 @@ module _ (q : Program) (t : Trace) (s : Stage) (i : ℕ) (kept : Kept t s) (may 
 
   counts_small : (k : ℕ) → (history (parts t)).counts k ≤ 65535
   counts_small zero = omega arith
-  counts_small (suc k) = t.small k
+  counts_small (suc k) = t.rows.small k
 
   -- the step can be made
   pub can_step : steps p m i ≡ true

@@ -41,17 +41,17 @@ module _ (t : Trace) (u : Used) (size : Sized u) (settled : SettledIn t u) (k : 
   abbrev q : List Event
   q = row t k
 
-  by_threads : ProperEvents t.threads (variable k) q
-  by_threads = subst (λ (n : ℕ). ProperEvents t.threads (variable k) (row t n)) (variable_place k lt) ((checks_exactly.only t).proper (variable k))
+  by_threads : ProperEvents t.rows.threads (variable k) q
+  by_threads = subst (λ (n : ℕ). ProperEvents t.rows.threads (variable k) (row t n)) (variable_place k lt) ((checks_exactly.only t).proper (variable k))
 
   -- all cursors are at the end: nothing is unused
   none_unused : ((n : ℕ) → n < length cs → length q ≤ get_or cs n 0) → unused (cursor cs) 0 q ≡ []
-  none_unused h = go (unused (cursor cs) 0 q) refl (proper_unused t.threads (variable k) (cursor cs) 0 q by_threads)
+  none_unused h = go (unused (cursor cs) 0 q) refl (proper_unused t.rows.threads (variable k) (cursor cs) 0 q by_threads)
     where
-      go : (l : List Event) → unused (cursor cs) 0 q ≡ l → ProperEvents t.threads (variable k) l → l ≡ []
+      go : (l : List Event) → unused (cursor cs) 0 q ≡ l → ProperEvents t.rows.threads (variable k) l → l ≡ []
       go [] e p = refl
       go (x ∷ l) e p =
-          let few = t.few in
+          let few = t.rows.few in
           let w = p.0 in
           let one : 1 ≤ who x = grind (arith, nat_tests) in
           let most : who x ≤ 8 = grind (arith, nat_tests) in

@@ -2,6 +2,7 @@
 use Rattle.std.proofs.Common.{◌≡◌, ℕ, zero, suc, cond, ◌&&◌, ltb, leb, List, ◌∷◌, get_or, replicate, refl, ap, arith}
 use mathlib.Core.Path.{fun_ext}
 use Rattle.std.proofs.lemmas.Bool.Decides.{nat_tests}
+use Rattle.std.proofs.lemmas.List.{get_or-replicate, get_or_past, length-replicate}
 use Rattle.machine.specs.declared.Thread.{Thread}
 use Rattle.machine.specs.declared.Machine.{Machine}
 use Rattle.program.specs.declared.Program.{Program}
@@ -10,14 +11,10 @@ use Rattle.machine.specs.View.{item_of, view, code_of}
 
 -- one of equal elements
 filled : {A : Type 0} (n k : ℕ) (x d : A) → get_or (replicate n x) k d ≡ cond (ltb k n) x d
-filled zero k x d = grind (arith, nat_tests)
-filled (suc n) zero x d = grind (arith, nat_tests)
-filled (suc n) (suc k) x d = let again = filled n k x d in grind (arith, nat_tests)
+filled {A} n k x d = grind (arith, nat_tests, get_or-replicate {A = A}, get_or_past {X = A}, length-replicate {A = A})
 
 same_filled : {A : Type 0} (n k : ℕ) (x : A) → get_or (replicate n x) k x ≡ x
-same_filled zero k x = refl
-same_filled (suc n) zero x = refl
-same_filled (suc n) (suc k) x = same_filled n k x
+same_filled {A} n k x = grind (arith, get_or-replicate {A = A}, get_or_past {X = A}, length-replicate {A = A})
 
 threads : (r : Thread) (i : ℕ) → get_or (idle ∷ replicate 8 r) i idle ≡ cond (leb 1 i && leb i 8) r idle
 threads r zero = refl

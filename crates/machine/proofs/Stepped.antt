@@ -5,17 +5,13 @@ use Rattle.std.proofs.lemmas.Bool.{and_parts}
 use Rattle.machine.specs.declared.Machine.{Machine}
 use Rattle.program.specs.declared.Instruction.{Instruction}
 use Rattle.program.specs.declared.Program.{Program}
-use Rattle.machine.specs.Machine.{Code, Able, able, able_at, object, here, free, rises, perform, step, step_at, steps_at}
+use Rattle.machine.specs.Machine.{Code, Able, object, here, free, rises, perform, step, step_at, steps_at}
 use Rattle.machine.specs.Rules.{Steps}
 use Rattle.program.specs.Programs.{fetched}
 use Rattle.machine.specs.View.{Sized, Standing, Stepped, code_of, each_of, item_of, meaning, means, performed, view}
 use Rattle.machine.proofs.Decides.{said, says_free}
 use Rattle.machine.proofs.Laws as laws
 use Rattle.machine.proofs.Views.{fits, performs}
-
--- a thread that stands at an instruction is able where that one's object is free
-pub able_at_found : (q : Program) (limits : List ℕ) (m : Machine) (t : ℕ) (i : Instruction) (r : Bool) → limits ≡ q.limits → Some i ≡ fetched q t ((view m).thread t).place → r ≡ free (each_of limits) t (meaning i) (item_of m (object (meaning i))).value → r ≡ able (code_of q) (view m) t
-able_at_found q limits m t i r same found e = e ∙ ap (λ l. free (each_of l) t (meaning i) (item_of m (object (meaning i))).value) same ∙ ap (λ o. able_at (code_of q) (view m) t (means o)) found
 
 module _ (q : Program) (limits : List ℕ) (same : limits ≡ q.limits) (m : Machine) (t : ℕ) (i : Instruction) (stands : Standing m t i) (sized : Sized m) (found : Some i ≡ fetched q t ((view m).thread t).place) where
   abbrev p : Code

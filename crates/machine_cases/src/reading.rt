@@ -14,29 +14,24 @@ const WORKED: [u8; 44] = [
 const EMPTY: [u8; 18] = [1, 0, 0, 0, 0, 0, 0, 0, 0, 1, 1, 1, 1, 1, 1, 1, 1, 0];
 
 // What reading the bytes gives: how many were taken, or the place of the refusal.
-#[derive(Clone, Copy, PartialEq, Eq, Debug)]
-enum Outcome {
-    Taken(usize),
-    Refused(usize),
-}
-
-use Outcome::{Refused, Taken};
+type Outcome = Result<usize, usize>;
 
 fn read(rt: &HostRuntime, bytes: &[u8]) -> Result<Outcome, Fail> {
     let room = Room::reserve(rt.alloc())?;
-    Ok(match Program::read(room, bytes) {
-        Ok((_, taken)) => Taken(taken),
-        Err(Fault::Malformed(place)) => Refused(place),
-    })
+    Ok(
+        Program::read(room, bytes)
+            .map(|(_, taken)| taken)
+            .map_err(|Fault::Malformed(place)| place),
+    )
 }
 
 #[test]
 fn whole_programs(rt: HostRuntime) -> Result<(), Fail> {
-    assert_eq!(rt; read(&rt, &WORKED)?, Taken(44));
-    assert_eq!(rt; read(&rt, &EMPTY)?, Taken(18));
+    assert_eq!(rt; read(&rt, &WORKED)?, Ok(44));
+    assert_eq!(rt; read(&rt, &EMPTY)?, Ok(18));
     let mut longer = [255; 50];
     longer[0..44].copy_from_slice(&WORKED);
-    assert_eq!(rt; read(&rt, &longer)?, Taken(44), "what follows is ignored");
+    assert_eq!(rt; read(&rt, &longer)?, Ok(44), "what follows is ignored");
     Ok(())
 }
 
@@ -48,7 +43,7 @@ fn each_field_cut_short(rt: HostRuntime) -> Result<(), Fail> {
             21 | 26 | 31 | 35 | 39 | 43 => length - 1,
             _ => length,
         };
-        assert_eq!(rt; read(&rt, &WORKED[0..length])?, Refused(place), "length");
+        assert_eq!(rt; read(&rt, &WORKED[0..length])?, Err(place), "length");
     }
     Ok(())
 }
@@ -56,12 +51,12 @@ fn each_field_cut_short(rt: HostRuntime) -> Result<(), Fail> {
 #[test]
 fn numbers_of_threads(rt: HostRuntime) -> Result<(), Fail> {
     for (threads, outcome) in [
-        (0, Refused(0)),
-        (1, Taken(18)),
-        (7, Taken(24)),
-        (8, Taken(25)),
-        (9, Refused(0)),
-        (255, Refused(0)),
+        (0, Err(0)),
+        (1, Ok(18)),
+        (7, Ok(24)),
+        (8, Ok(25)),
+        (9, Err(0)),
+        (255, Err(0)),
     ] {
         assert_eq!(rt; read(&rt, &idle(threads))?, outcome);
     }
@@ -79,12 +74,12 @@ fn idle(threads: u8) -> [u8; 26] {
 #[test]
 fn numbers_of_instructions(rt: HostRuntime) -> Result<(), Fail> {
     for (n, outcome) in [
-        (0, Taken(18)),
-        (1, Taken(22)),
-        (127, Taken(526)),
-        (128, Taken(530)),
-        (129, Refused(17)),
-        (255, Refused(17)),
+        (0, Ok(18)),
+        (1, Ok(22)),
+        (127, Ok(526)),
+        (128, Ok(530)),
+        (129, Err(17)),
+        (255, Err(17)),
     ] {
         assert_eq!(rt; read(&rt, &long(n))?, outcome);
     }
@@ -96,8 +91,8 @@ fn long(n: u8) -> [u8; 540] {
     let mut bytes = [0; 540];
     bytes[0..18].copy_from_slice(&EMPTY);
     bytes[17] = n;
-    for i in 0..130usize {
-        bytes[18 + 4 * i] = 1;
+    for instruction in bytes[18..538].chunks_exact_mut(4) {
+        instruction[0] = 1;
     }
     bytes
 }
@@ -121,7 +116,7 @@ fn starts_and_limits(rt: HostRuntime) -> Result<(), Fail> {
             let mut bytes = EMPTY;
             bytes[1 + k] = start;
             bytes[9 + k] = limit;
-            let outcome = if fits { Taken(18) } else { Refused(9 + k) };
+            let outcome = if fits { Ok(18) } else { Err(9 + k) };
             assert_eq!(rt; read(&rt, &bytes)?, outcome);
         }
     }
@@ -130,54 +125,54 @@ fn starts_and_limits(rt: HostRuntime) -> Result<(), Fail> {
 
 // Code, a and b of the one instruction of one thread: it takes 22 bytes, or is refused at its code, a or b.
 const OPERANDS: [(u8, u8, u16, Outcome); 48] = [
-    (1, 3, 65535, Taken(22)),
-    (1, 4, 0, Refused(19)),
-    (2, 3, 3, Taken(22)),
-    (2, 4, 0, Refused(19)),
-    (2, 0, 4, Refused(20)),
-    (3, 3, 3, Taken(22)),
-    (3, 4, 0, Refused(19)),
-    (3, 0, 4, Refused(20)),
-    (4, 3, 1, Taken(22)),
-    (4, 4, 0, Refused(19)),
-    (4, 0, 2, Refused(20)),
-    (4, 0, 65535, Refused(20)),
-    (5, 0, 1, Taken(22)),
-    (5, 1, 0, Refused(19)),
-    (5, 0, 2, Refused(20)),
-    (5, 0, 256, Refused(20)),
-    (6, 3, 15, Taken(22)),
-    (6, 4, 0, Refused(19)),
-    (6, 0, 16, Refused(20)),
-    (6, 0, 256, Refused(20)),
-    (7, 3, 15, Taken(22)),
-    (7, 4, 0, Refused(19)),
-    (7, 0, 16, Refused(20)),
-    (7, 255, 255, Refused(19)),
-    (8, 0, 7, Taken(22)),
-    (8, 1, 0, Refused(19)),
-    (8, 0, 8, Refused(20)),
-    (8, 0, 256, Refused(20)),
-    (9, 0, 7, Taken(22)),
-    (9, 1, 0, Refused(19)),
-    (9, 0, 8, Refused(20)),
-    (9, 0, 256, Refused(20)),
-    (10, 0, 7, Taken(22)),
-    (10, 1, 0, Refused(19)),
-    (10, 0, 8, Refused(20)),
-    (10, 0, 256, Refused(20)),
-    (11, 0, 7, Taken(22)),
-    (11, 1, 0, Refused(19)),
-    (11, 0, 8, Refused(20)),
-    (11, 3, 0, Refused(19)),
-    (0, 0, 0, Refused(18)),
-    (12, 0, 0, Refused(18)),
-    (255, 0, 0, Refused(18)),
-    (0, 9, 9, Refused(18)),
-    (1, 0, 0, Taken(22)),
-    (5, 0, 0, Taken(22)),
-    (8, 0, 0, Taken(22)),
-    (11, 0, 0, Taken(22)),
+    (1, 3, 65535, Ok(22)),
+    (1, 4, 0, Err(19)),
+    (2, 3, 3, Ok(22)),
+    (2, 4, 0, Err(19)),
+    (2, 0, 4, Err(20)),
+    (3, 3, 3, Ok(22)),
+    (3, 4, 0, Err(19)),
+    (3, 0, 4, Err(20)),
+    (4, 3, 1, Ok(22)),
+    (4, 4, 0, Err(19)),
+    (4, 0, 2, Err(20)),
+    (4, 0, 65535, Err(20)),
+    (5, 0, 1, Ok(22)),
+    (5, 1, 0, Err(19)),
+    (5, 0, 2, Err(20)),
+    (5, 0, 256, Err(20)),
+    (6, 3, 15, Ok(22)),
+    (6, 4, 0, Err(19)),
+    (6, 0, 16, Err(20)),
+    (6, 0, 256, Err(20)),
+    (7, 3, 15, Ok(22)),
+    (7, 4, 0, Err(19)),
+    (7, 0, 16, Err(20)),
+    (7, 255, 255, Err(19)),
+    (8, 0, 7, Ok(22)),
+    (8, 1, 0, Err(19)),
+    (8, 0, 8, Err(20)),
+    (8, 0, 256, Err(20)),
+    (9, 0, 7, Ok(22)),
+    (9, 1, 0, Err(19)),
+    (9, 0, 8, Err(20)),
+    (9, 0, 256, Err(20)),
+    (10, 0, 7, Ok(22)),
+    (10, 1, 0, Err(19)),
+    (10, 0, 8, Err(20)),
+    (10, 0, 256, Err(20)),
+    (11, 0, 7, Ok(22)),
+    (11, 1, 0, Err(19)),
+    (11, 0, 8, Err(20)),
+    (11, 3, 0, Err(19)),
+    (0, 0, 0, Err(18)),
+    (12, 0, 0, Err(18)),
+    (255, 0, 0, Err(18)),
+    (0, 9, 9, Err(18)),
+    (1, 0, 0, Ok(22)),
+    (5, 0, 0, Ok(22)),
+    (8, 0, 0, Ok(22)),
+    (11, 0, 0, Ok(22)),
 ];
 
 #[test]

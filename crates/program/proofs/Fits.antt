@@ -1,6 +1,5 @@
 -- What a well-formed program gives.
-use Rattle.std.proofs.Common.{◌≡◌, ℕ, suc, ◌-◌, ◌<◌, ◌≤◌, true, leb, List, [], ◌∷◌, length, get_or, Some, None, vec_items, vec_len, sym, refl, ap, ◌∙◌, subst, arith}
-use Rattle.std.specs.Global.{Vec}
+use Rattle.std.proofs.Common.{◌≡◌, ℕ, ◌<◌, ◌≤◌, true, leb, List, [], ◌∷◌, length, get_or, Some, None, vec_len, sym, refl, ap, ◌∙◌, subst, arith}
 use Rattle.std.specs.List.{slice_get}
 use Rattle.std.proofs.lemmas.Option.{slice_get-get_or, slice_get_past}
 use Rattle.std.proofs.lemmas.List.{get_or_past}
@@ -11,7 +10,7 @@ use Rattle.program.specs.declared.Program.{Program}
 use Rattle.program.specs.Form.{each, text_fits, fits, Usable}
 use Rattle.program.specs.Programs.{texts, text_of, fetched}
 use Rattle.program.proofs.Each.{each_at}
-use Rattle.program.proofs.Rows.{rows_length, row_at}
+use Rattle.program.proofs.Rows.{rows_length}
 
 -- a program has as many threads as texts
 pub texts_length : (p : Program) → vec_len p.texts ≡ length (texts p)
@@ -23,12 +22,6 @@ few p = omega (arith, p.few, texts_length p)
 -- there is no text past the last thread
 pub text_past : (p : Program) (t : ℕ) → length (texts p) < t → text_of p t ≡ []
 text_past p t h = get_or_past ([] ∷ texts p) t [] (omega arith)
-
--- the text of thread t is that of the vector before place t
-pub text_is : (p : Program) (t : ℕ) (v : Vec Instruction) → 1 ≤ t → t ≤ vec_len p.texts → v ≡ get_or (vec_items p.texts) (t - 1) v → vec_items v ≡ text_of p t
-text_is p t v one most e =
-    let own : suc (t - 1) ≡ t = omega arith in
-    row_at p.texts (t - 1) v (omega arith) e ∙ ap (text_of p) own
 
 -- an instruction that fits can be made
 usable : (n : ℕ) (i : Instruction) → fits n i ≡ true → Usable i

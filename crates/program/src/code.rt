@@ -17,14 +17,10 @@ impl Program {
     pub fn text(&self, thread: u8) -> &[Instruction]
         ensures { result.now ≡ text_of self.now thread }
     {
-        let t = thread as usize;
-        if t < 1 {
-            return &[];
-        }
-        if t > self.texts.len() {
-            return &[];
-        }
-        &self.texts[t - 1]
+        usize::from(thread)
+            .checked_sub(1)
+            .and_then(|index| self.texts.get(index))
+            .map_or(&[], |text| text.as_slice())
     }
 
     // The instruction of the thread at the place, if there is one.
@@ -32,13 +28,7 @@ impl Program {
         ensures value { result ≡ fetched self.now thread place }
         ensures usable { IfSome result (λ i. (place < 128) × Usable i) }
     {
-        let text = self.text(thread);
-        let at = place as usize;
-        if at < text.len() {
-            Some(text[at])
-        } else {
-            None
-        }
+        self.text(thread).get(usize::from(place)).copied()
     }
 
     // The semaphores' starts.

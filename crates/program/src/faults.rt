@@ -10,17 +10,17 @@ pub enum Fault {
     Malformed(usize),
 }
 
-impl Fault {
-    // The number and the parts of the fault.
-    pub fn refusal(&self) -> Refusal
-        ensures { result ≡ refusal self.now }
-    {
-        match self {
+// The number and the parts of the fault.
+impl From<Fault> for Refusal {
+    ghost from_gives = { λ f r. r ≡ refusal f };
+
+    fn from(fault: Fault) -> Refusal {
+        match fault {
             Fault::Malformed(place) => Refusal {
                 number: 1,
                 layer: Layer::Machine,
                 thread: None,
-                place: Some(*place),
+                place: Some(place),
                 object: None,
             },
         }

@@ -5,6 +5,7 @@ pub mod code;
 pub mod faults;
 mod memory;
 pub mod read;
+mod reader;
 mod reserve;
 pub mod text;
 
@@ -15,6 +16,7 @@ pub use memory::Room;
 pub use reserve::spares;
 
 // One instruction; docs/MACHINE.md says what each code means.
+// The code stays a number: the machine's step is one match on it by ranges, with guards.
 #[derive(Clone, Copy, PartialEq, Eq, Debug)]
 pub struct Instruction {
     pub code: u8,
@@ -27,6 +29,8 @@ pub struct Instruction {
 pub struct Program {
     // the instructions of thread 1, thread 2 and so on
     texts: Vec<Vec<Instruction>>,
+    // The starts and the limits lie apart, since the bytes hold eight starts and then eight limits,
+    // and the machine begins as a copy of the starts: each array is lent whole.
     starts: [u8; 8],
     limits: [u8; 8],
     ghost some: { 1 ≤ vec_len texts },

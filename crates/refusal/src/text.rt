@@ -12,22 +12,25 @@ impl fmt::Display for Object {
     }
 }
 
-// Number, thread, place and object with blanks between, and `-` for each that is missing.
+// A part of a refusal, or `-` where it is missing.
+#[derive(Drop)]
+struct Part<T>(Option<T>);
+
+impl<T: fmt::Display> fmt::Display for Part<T> {
+    fn fmt<W: fmt::Write>(&self, f: &mut fmt::Formatter<W>) -> fmt::Result {
+        match &self.0 {
+            Some(part) => write!(f, "{part}"),
+            None => write!(f, "-"),
+        }
+    }
+}
+
+// Number, thread, place and object with blanks between.
 impl fmt::Display for Refusal {
     fn fmt<W: fmt::Write>(&self, f: &mut fmt::Formatter<W>) -> fmt::Result {
-        let number = self.number;
-        write!(f, "refused {number}")?;
-        match self.thread {
-            Some(thread) => write!(f, " {thread}")?,
-            None => write!(f, " -")?,
-        }
-        match self.place {
-            Some(place) => write!(f, " {place}")?,
-            None => write!(f, " -")?,
-        }
-        match self.object {
-            Some(object) => write!(f, " {object}"),
-            None => write!(f, " -"),
-        }
+        let thread = Part(self.thread);
+        let place = Part(self.place);
+        let object = Part(self.object);
+        write!(f, "refused {} {thread} {place} {object}", self.number)
     }
 }

@@ -6,3 +6,4 @@ pub mod Texts
 pub mod Logs
 pub mod Runs
 pub mod Acts
+pub mod Searches
