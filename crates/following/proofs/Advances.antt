@@ -1,5 +1,5 @@
 -- A permitted thread's step can be made, advances what the arrays mean, and keeps what a follower keeps.
-use Rattle.std.proofs.Common.{◌≡◌, ℕ, zero, suc, ◌<◌, ◌≤◌, true, ◌≢◌, List, [], length, Some, None, Option as Answer, sym, refl, ap, ◌∙◌, subst, arith}
+use Rattle.std.proofs.Common.{◌≡◌, ℕ, zero, suc, ◌<◌, ◌≤◌, Bool, true, cond, ◌≢◌, List, [], length, Some, None, Option as Answer, sym, refl, ap, ◌∙◌, subst, arith}
 use mathlib.Core.Option.{some}
 use Rattle.std.proofs.lemmas.Bool.{and_from, lt-ltb}
 use Rattle.program.specs.declared.Program.{Program}
@@ -8,7 +8,7 @@ use Rattle.machine.specs.declared.Machine.{Machine}
 use Rattle.machine.specs.declared.Thread.{Thread}
 use Rattle.machine.specs.Machine.{Code, State, Instr, Object, nothing, variable, same_object, object, here, able, able_at, rises, steps, steps_at, step, step_at}
 use Rattle.machine.specs.Proper.{InRange}
-use Rattle.machine.specs.View.{code_of, view}
+use Rattle.machine.specs.View.{Stepped, code_of, view}
 use Rattle.machine.proofs.Decides.{says_able}
 use Rattle.machine.proofs.Maps.{put_is}
 use Rattle.machine.proofs.Programs.{proper, thread_of}
@@ -19,11 +19,12 @@ use Rattle.trace.specs.Accesses.{listed}
 use Rattle.trace.specs.History.{logged_at}
 use Rattle.trace.specs.Traces.{history, named, parts, position}
 use Rattle.following.specs.declared.stage.Stage.{Stage}
-use Rattle.following.specs.Following.{Progress, Permitted, Turn, due, left_at, advance}
+use Rattle.following.specs.declared.used.Used.{Used}
+use Rattle.following.specs.Following.{Progress, Permitted, Turn, due, left_at, advance, permitted}
 use Rattle.following.specs.Cursors.{cursor, Settled}
 use Rattle.following.specs.View.{row, cursors_at, left, progress, next_at, marked, spent, Due, Roomy, Sized, Kept}
 use Rattle.following.proofs.Accessed.{accesses, with_object, inside}
-use Rattle.following.proofs.Decided.{agreed}
+use Rattle.following.proofs.Decided.{agreed, permitted_is}
 use Rattle.following.proofs.Due.{due_is, first_in}
 use Rattle.following.proofs.Events.{spend_length, no_clash}
 use Rattle.following.proofs.Lengths.{few}
@@ -141,4 +142,26 @@ module _ (q : Program) (t : Trace) (s : Stage) (i : ℕ) (kept : Kept t s) (may 
       settled = settled_then a;
       room = λ v. subst (λ (x : Progress). Roomy (x.machine.item (variable v)) (x.left (variable v)) (row t (position (variable v)))) (sym stepped)
           (room_after m.item (left t s.used) (λ k. row t (position (variable k))) i c (m.thread i) turn kept.room v);
+    }
+
+-- the same, of a thread that the test permits
+pub due_of : (q : Program) (t : Trace) (s : Stage) (i : ℕ) → Kept t s → permitted (code_of q) (history (parts t)) (progress t s) i ≡ true → (a : Answer Access) → listed a ≡ logged_at (here (code_of q) (view s.machine) i) i (view s.machine) → Due t s.used i a
+due_of q t s i kept yes_it = has_due q t s i kept (permitted_is (code_of q) (history (parts t)) (progress t s) i yes_it)
+
+-- what the step of a permitted thread comes to, where the arrays after it are these
+pub record Moved (q : Program) (t : Trace) (s : Stage) (i : ℕ) (answer : Bool) (later : Stage) : Type 0 where
+  pub made : answer ≡ true
+  pub after : progress t later ≡ advance (code_of q) i (progress t s)
+  pub kept : Kept t later
+
+pub moves : (q : Program) (t : Trace) (s : Stage) (i : ℕ) → Kept t s → permitted (code_of q) (history (parts t)) (progress t s) i ≡ true → (a : Answer Access) → listed a ≡ logged_at (here (code_of q) (view s.machine) i) i (view s.machine)
+    → (u : Used) → u ≡ spent t i a s.used → (made : Bool) (n : Machine) → Stepped q s.machine i made n → Moved q t s i made (record { machine = n; used = u })
+moves q t s i kept yes_it a from u spends made n steps_to =
+    let may = permitted_is (code_of q) (history (parts t)) (progress t s) i yes_it in
+    let done : made ≡ true = steps_to.answer ∙ can_step q t s i kept may in
+    let next : view n ≡ step (code_of q) i (view s.machine) = subst (λ (b : Bool). cond b (view n ≡ step (code_of q) i (view s.machine)) (n ≡ s.machine)) done steps_to.after in
+    record {
+      made = done;
+      after = ap (λ (u : Used). progress t (record { machine = n; used = u })) spends ∙ advances q t s i kept may a from n next;
+      kept = subst (λ (u : Used). Kept t (record { machine = n; used = u })) (sym spends) (kept_after q t s i kept may a from n next);
     }

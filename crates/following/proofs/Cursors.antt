@@ -105,11 +105,6 @@ settles i k q =
     let d : drop (s - k) (drop k q) ≡ drop ((s - k) + k) q = drop-drop (s - k) k q ∙ ap (λ (m : ℕ). drop m q) (let y : k + (s - k) ≡ (s - k) + k = omega arith in y) in
     subst (λ (m : ℕ). seek i m (drop m q) ≡ m) (sym z) (ap (seek i ((s - k) + k)) (sym d) ∙ stays i k (drop k q) (s - k) z)
 
--- and it is in range
-pub seek_within : (i k : ℕ) (q : List Event) → seek i k q ≤ k + length q
-seek_within i k [] = omega arith
-seek_within i k (e ∷ q) = let again = seek_within i (suc k) q in grind (arith, nat_tests)
-
 -- at a settled cursor stands thread i's first unused event
 settled_head : (i k : ℕ) (q : List Event) → seek i k q ≡ k → first_of i q ≡ first q
 settled_head i k [] h = refl
@@ -121,11 +116,6 @@ first_settled i c q h = first_unused i c q ∙ settled_head i (c i) (drop (c i) 
 pub of_thread : (i : ℕ) (q : List Event) (e : Event) → first_of i q ≡ some e → who e ≡ i
 of_thread i [] e h = grind arith
 of_thread i (x ∷ q) e h = let again = of_thread i q e in grind (arith, nat_tests)
-
--- the use of an event leaves one fewer
-pub one_fewer : (i : ℕ) (q : List Event) (e : Event) → first_of i q ≡ some e → suc (length (spend i q)) ≡ length q
-one_fewer i [] e h = grind arith
-one_fewer i (x ∷ q) e h = let again = one_fewer i q e in grind (arith, nat_tests)
 
 -- the list of cursors
 pub cursor_set : (cs : List ℕ) (i n : ℕ) → i < length cs → cursor (set cs i n) ≡ moved (suc i) n (cursor cs)

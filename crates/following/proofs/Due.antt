@@ -1,7 +1,6 @@
 -- The event that is due stands at the cursor or at the front.
 use Rattle.std.proofs.Common.{◌≡◌, ℕ, zero, suc, ◌-◌, ◌<◌, ◌≤◌, true, false, ltb, ◌≢◌, List, [], ◌∷◌, length, get_or, drop, sym, refl, ap, ◌∙◌, arith}
-use mathlib.Core.Option.{Option, none, some}
-use Rattle.std.proofs.lemmas.List.{drop_all}
+use mathlib.Core.Option.{Option, some}
 use Rattle.std.proofs.lemmas.Bool.{cond-true, cond-false, lt-ltb, le-ltb}
 use Rattle.machine.specs.declared.Operation.TheVariants.{P, V, Lock, Unlock}
 use Rattle.machine.specs.Machine.{Instr, Object, nothing, variable, semaphore, mutex, object}
@@ -22,9 +21,6 @@ pub first_at : (k : ℕ) (q : List Event) (d : Event) → k < length q → some 
 first_at k [] d h = absurd (omega arith)
 first_at zero (e ∷ q) d h = refl
 first_at (suc k) (e ∷ q) d h = first_at k q d (omega arith)
-
-pub first_past : (k : ℕ) (q : List Event) → length q ≤ k → none ≡ first (drop k q)
-first_past k q h = sym (ap first (drop_all k q h))
 
 -- and where there is one, k is within the sequence
 pub first_in : (k : ℕ) (q : List Event) (e : Event) → first (drop k q) ≡ some e → k < length q

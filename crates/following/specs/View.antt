@@ -49,7 +49,7 @@ marked u k i q =
     (record { cursors = slice_set u.cursors k (slice_set (cursors_at u k) (i - 1) (from i (next_at u k i + 1) q)); fronts = u.fronts })
     (record { cursors = u.cursors; fronts = slice_set u.fronts (k - 16) (next_at u k i + 1) })
 
--- the arrays are as long as they are declared
+-- the arrays are as long as they are declared; the check knows it of an inner array only where that is read
 pub record Sized (u : Used) : Type 0 where
   pub cursors : length u.cursors ≡ 16
   pub fronts : length u.fronts ≡ 16

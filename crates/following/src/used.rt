@@ -15,7 +15,7 @@ use trace::{Event, Trace};
 const VARIABLES: usize = 16;
 
 // For each variable and thread the place of the thread's first unused event, its cursor; for each semaphore and lock
-// how many events are used.
+// how many events are used. The trace is lent to each call: kept here too, a follower would hold it twice.
 #[derive(Clone, Copy)]
 pub(crate) struct Used {
     cursors: [[u16; 8]; 16],
@@ -29,6 +29,7 @@ impl Used {
         ensures { result ≡ fresh trace.now }
     {
         Used {
+            // tried without a clause: the proof of 16 turns didn't close
             cursors: array::from_fn(
                 |place|
                     ensures { result ≡ firsts (row trace.entry.now place) }

@@ -1,1 +1,4 @@
 pub mod Fronts
+pub mod Kept
+pub mod Mapped
+pub mod Named

@@ -1,5 +1,5 @@
 -- Sets of the threads 1 to 8.
-use Rattle.std.specs.Prelude.{◌≡◌, ℕ, ◌+◌, Bool, false, cond, List, [], ◌∷◌, length, ◌==◌, nat_lt, slice_index_or}
+use Rattle.std.specs.Prelude.{◌≡◌, ℕ, ◌+◌, Bool, false, cond, Option, List, [], ◌∷◌, find, length, ◌==◌, nat_lt, slice_index_or}
 use Rattle.schedule.specs.declared.ThreadSet.{ThreadSet}
 
 -- the thread is in the set; thread 0 is in none
@@ -27,6 +27,10 @@ empty set = length (threads set) == 0
 abbrev pub first_above : ℕ → List ℕ → ℕ
 first_above n [] = 0
 first_above n (t ∷ ts) = cond (nat_lt n t) t (first_above n ts)
+
+-- the first thread above n, if there is one
+abbrev pub found_above : ℕ → List ℕ → Option ℕ
+found_above n = find (nat_lt n)
 
 -- the set of the threads 1 to 8 of which the test holds
 unfoldable pub set_of : (ℕ → Bool) → ThreadSet

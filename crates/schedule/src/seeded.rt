@@ -46,11 +46,11 @@ impl Scheduler for Seeded {
     ghost outside = { Prim.search rules };
 
     fn name(&self, set: ThreadSet) -> u8 {
-        let count = set.len();
-        if count == 0 {
-            return 0;
-        }
-        set.nth(self.state % count)
+        // With no thread to choose from, it names 0.
+        self.state
+            .checked_rem(set.len())
+            .and_then(|n| set.nth(n))
+            .unwrap_or(0)
     }
 
     fn told(&mut self, set: ThreadSet, thread: u8) {

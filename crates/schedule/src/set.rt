@@ -1,6 +1,6 @@
 // Which threads a set has.
-ghost use Rattle.std.specs.Prelude.{◌≡◌, length, if◌then◌else◌, nat_eq, slice_index};
-ghost use Rattle.schedule.specs.Threads.{empty, first_above, has, threads, with};
+ghost use Rattle.std.specs.Prelude.{◌≡◌, if◌then◌else◌, length, nat_eq, slice_get};
+ghost use Rattle.schedule.specs.Threads.{empty, found_above, has, threads, with};
 
 use crate::ThreadSet;
 
@@ -16,15 +16,7 @@ impl ThreadSet {
     pub fn has(&self, thread: u8) -> bool
         ensures { result ≡ has self.now thread }
     {
-        let offered: &[bool] = &self.offered;
-        let place = thread as usize;
-        if place == 0 {
-            return false;
-        }
-        if place > offered.len() {
-            return false;
-        }
-        offered[place - 1]
+        (1..=8).contains(&thread) && self.offered[usize::from(thread) - 1]
     }
 
     // Whether the thread is in the set once the other one is in it or not, as is said.
@@ -32,25 +24,17 @@ impl ThreadSet {
         ensures { result ≡ (if nat_eq thread other then is else has self.now thread) }
     {
         if thread == other {
-            return is;
+            is
+        } else {
+            self.has(thread)
         }
-        self.has(thread)
     }
 
     // The set with the thread, or without it. No element is written, since a load that follows would have to wait for it.
     pub fn with(self, thread: u8, is: bool) -> ThreadSet
         ensures { result ≡ with self thread is }
     {
-        ThreadSet::of([
-            self.has_with(1, thread, is),
-            self.has_with(2, thread, is),
-            self.has_with(3, thread, is),
-            self.has_with(4, thread, is),
-            self.has_with(5, thread, is),
-            self.has_with(6, thread, is),
-            self.has_with(7, thread, is),
-            self.has_with(8, thread, is),
-        ])
+        ThreadSet::of([1, 2, 3, 4, 5, 6, 7, 8].map(|each| self.has_with(each, thread, is)))
     }
 
     // Whether no thread is in the set.
@@ -64,44 +48,31 @@ impl ThreadSet {
     pub fn len(&self) -> u32
         ensures { result ≡ length (threads self.now) }
     {
-        let offered: &[bool] = &self.offered;
-        let mut n = 0;
-        for b in offered {
-            if *b {
-                n += 1;
-            }
-        }
-        n
+        self.offered.iter().map(|is| u32::from(*is)).sum()
     }
 
-    // Thread number n of the set, from 0, in rising order; 0 where there are fewer.
-    pub fn nth(&self, n: u32) -> u8
-        ensures { result ≡ slice_index (threads self.now) n }
+    // Thread number n of the set, from 0, in rising order.
+    pub fn nth(&self, n: u32) -> Option<u8>
+        ensures { result ≡ slice_get (threads self.now) n }
     {
-        let offered: &[bool] = &self.offered;
-        let mut left = n;
-        for (i, b) in offered.iter().enumerate() {
-            if *b {
-                if left == 0 {
-                    return i as u8 + 1;
-                }
-                left -= 1;
-            }
-        }
-        0
+        self.offered
+            .iter()
+            .enumerate()
+            .filter(|(_, is)| **is)
+            .map(|(place, _)| place as u8 + 1)
+            .nth(n as usize)
     }
 
-    // The lowest thread of the set that is above the number; 0 where there is none.
-    pub fn first_above(&self, number: u8) -> u8
-        ensures { result ≡ first_above number (threads self.now) }
+    // The lowest thread of the set that is above the number.
+    pub fn first_above(&self, number: u8) -> Option<u8>
+        ensures { result ≡ found_above number (threads self.now) }
     {
-        let offered: &[bool] = &self.offered;
-        for (i, b) in offered.iter().enumerate() {
-            let thread = i as u8 + 1;
-            if *b && thread > number {
-                return thread;
+        for (place, is) in self.offered.iter().enumerate() {
+            let thread = place as u8 + 1;
+            if *is && thread > number {
+                return Some(thread);
             }
         }
-        0
+        None
     }
 }

@@ -33,8 +33,8 @@ fn sets(rt: HostRuntime) {
     assert!(rt; three().has(5) && !three().has(4));
     assert!(rt; none().is_empty() && !three().is_empty());
     assert!(rt; none().len() == 0 && three().len() == 3);
-    assert!(rt; three().nth(0) == 2 && three().nth(2) == 8 && three().nth(3) == 0);
-    assert!(rt; three().first_above(2) == 5 && three().first_above(8) == 0);
+    assert!(rt; three().nth(0) == Some(2) && three().nth(2) == Some(8) && three().nth(3).is_none());
+    assert!(rt; three().first_above(2) == Some(5) && three().first_above(8).is_none());
 }
 
 #[test]

@@ -48,12 +48,10 @@ impl Scheduler for Turn {
         if self.streak < self.quantum && set.has(self.last) {
             return self.last;
         }
-        let above = set.first_above(self.last);
-        if above == 0 {
-            set.first_above(0)
-        } else {
-            above
-        }
+        // With no thread to choose from, it names 0.
+        set.first_above(self.last)
+            .or_else(|| set.first_above(0))
+            .unwrap_or(0)
     }
 
     fn told(&mut self, set: ThreadSet, thread: u8) {

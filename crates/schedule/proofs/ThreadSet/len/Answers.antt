@@ -1,18 +1,15 @@
-use Rattle.std.proofs.Common.{length, ap, arith}
-use Rattle.schedule.proofs.Fronts.{front_in, front_out, front_end}
+use Rattle.std.proofs.Common.{rules, tests, arith, ◌≡◌, ◌∙◌, cond}
+use Rattle.std.specs.List.{sum_by}
+use Rattle.std.proofs.lemmas.Iterator.{YieldsList-from_slice}
+use Rattle.std.proofs.lemmas.Iterator.Adapters.{fits_from_length, at_most_from_yields_List}
+use Rattle.schedule.proofs.Kept.{counted}
 use Rattle.schedule.proofs.ThreadSet.len.Goals as goal
-use Rattle.schedule.proofs.ThreadSet.len.Goals.{then-b, else-b}
-
-pub loop-b-preserved : goal.loop-b-preserved
-loop-b-preserved c =
-    let bs = c.args.self.now.offered in
-    let i = c.loop-b.b-index in
-    elim c.if-b.branch [
-      | then-b w ↦ let e = ap length (front_in bs i c.loop-b-test.true w.if-b.true) in (omega (arith, w.n-is), omega (arith, w.n-is, e, c.loop-b.invariant.1))
-      | else-b w ↦ let e = ap length (front_out bs i c.loop-b-test.true w.if-b.false) in (omega (arith, w.n-is), omega (arith, w.n-is, e, c.loop-b.invariant.1))
-    ]
 
 pub returns : goal.returns
 returns c =
-    let e = ap length (front_end c.args.self.now.offered c.loop-b.b-index c.loop-b-test.false) in
-    omega (arith, e, c.loop-b.invariant.1)
+    let e : c.sum.result ≡ sum_by (λ b. cond b 1 0) c.args.self.now.offered = search rules in
+    e ∙ counted 1 c.args.self.now.offered
+
+pub sum-requires-clause-fits : goal.sum-requires-clause-fits
+sum-requires-clause-fits c =
+    fits_from_length _ _ 8 _ (at_most_from_yields_List (YieldsList-from_slice c.args.self.now.offered cc) (grind arith)) c.map.ensures.closure (omega arith) (λ x r q k. search (rules, tests))

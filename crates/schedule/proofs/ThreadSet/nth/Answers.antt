@@ -1,25 +1,18 @@
-use Rattle.std.proofs.Common.{◌+◌, get_or, drop, sym, ap, ◌∙◌}
-use Rattle.schedule.specs.Threads.{threads_from}
-use Rattle.schedule.proofs.Fronts.{front_in, front_out, front_end, getD_later}
+use Rattle.std.proofs.Common.{rules, tests, ◌+◌, ◌∙◌, sym, ap, slice_get}
+use Rattle.std.proofs.lemmas.Iterator.{YieldsList-from_slice, YieldsList-from_map}
+use Rattle.std.proofs.lemmas.Iterator.Adapters.{option_map_id}
+use Rattle.std.proofs.lemmas.Iterator.Consumers.{YieldsList-from_filter, YieldsList-from_enumerate, YieldsList-at, nth_from_yields_List}
+use Rattle.schedule.proofs.Kept.{kept}
 use Rattle.schedule.proofs.ThreadSet.nth.Goals as goal
-use Rattle.schedule.proofs.ThreadSet.nth.Goals.{then-b+else-left-eq0, else-b}
-
-pub returns-then-left-eq0 : goal.returns-then-left-eq0
-returns-then-left-eq0 c =
-    let e = front_in c.args.self.now.offered c.loop-i.i c.loop-i-test.true c.if-b.true in
-    sym (λ j. get_or (e j) (c.if-left-eq0.true j) 0) ∙ c.loop-i.invariant
-
-pub loop-i-preserved : goal.loop-i-preserved
-loop-i-preserved c =
-    let bs = c.args.self.now.offered in
-    let i = c.loop-i.i in
-    let rest = threads_from (i + 1 + 1) (drop (i + 1) bs) in
-    elim c.if-b.branch [
-      | then-b+else-left-eq0 w ↦ ap (λ n. get_or rest n 0) w.left-is ∙ sym (getD_later (i + 1) rest c.loop-i.left w.if-left-eq0.false) ∙ sym (ap (λ l. get_or l c.loop-i.left 0) (front_in bs i c.loop-i-test.true w.if-b.true)) ∙ c.loop-i.invariant
-      | else-b w ↦ ap (λ n. get_or rest n 0) w.left-is ∙ sym (ap (λ l. get_or l c.loop-i.left 0) (front_out bs i c.loop-i-test.true w.if-b.false)) ∙ c.loop-i.invariant
-    ]
 
 pub returns : goal.returns
 returns c =
-    let e = front_end c.args.self.now.offered c.loop-i.i c.loop-i-test.false in
-    sym (ap (λ l. get_or l c.loop-i.left 0) e) ∙ c.loop-i.invariant
+    sym (option_map_id c.nth.result)
+    ∙ nth_from_yields_List c.nth.result c.nth.new.self c.args.n c.nth.ensures.ran
+    (YieldsList-from_map _ (λ p. p.0 + 1)
+    (YieldsList-at c.map.ensures.source
+    (YieldsList-from_filter _ (λ p. p.1)
+    (YieldsList-at c.filter.ensures.source (YieldsList-from_enumerate (YieldsList-from_slice c.args.self.now.offered (cc)) (cc)))
+    c.filter.ensures.closure (λ x r q k. search (rules, tests))))
+    c.map.ensures.closure (λ x r q k. search (rules, tests)))
+    ∙ ap (λ ts. slice_get ts c.args.n) (kept 0 c.args.self.now.offered)

@@ -1,7 +1,13 @@
-use Rattle.std.proofs.Common.{sym, arith}
-use Rattle.std.proofs.lemmas.List.{get_or_past}
+use Rattle.std.proofs.Common.{rules, tests, ◌≡◌, ◌∙◌, ◌<◌, ◌%◌, None, length}
+use Rattle.std.specs.Option.{MatchOption, SomeIff}
+use Rattle.std.specs.List.{slice_get}
 use Rattle.schedule.specs.Threads.{threads}
+use Rattle.schedule.proofs.Named.{seed_found}
 use Rattle.schedule.proofs.seeded.SeededScheduler.name.Goals as goal
 
-pub returns-then-count-eq0 : goal.returns-then-count-eq0
-returns-then-count-eq0 c = sym (get_or_past (threads c.args.set) _ 0 (omega arith))
+pub returns : goal.returns
+returns c =
+    let ts = threads c.args.set in
+    let a : SomeIff c.checked_rem.result (0 < length ts) (c.args.self.now.state % length ts) = rw c.len.ensures at c.checked_rem.ensures in
+    let b : MatchOption c.checked_rem.result (c.and_then.result ≡ None) (λ n. c.and_then.result ≡ slice_get ts n) = search (rules, tests) in
+    c.unwrap_or.ensures ∙ seed_found c.args.self.now.state ts c.checked_rem.result c.and_then.result a b
