@@ -2,13 +2,7 @@
 use program::faults::Fault;
 use program::{Program, Room};
 use std::test::Fail;
-
-const WORKED: [u8; 44] = [
-    3, 0, 0, 0, 0, 0, 0, 0, 0, 1, 1, 1, 1, 1, 1, 1, 1, // threads, starts, limits
-    1, 6, 0, 0, 0, // thread 1
-    1, 6, 0, 0, 0, // thread 2
-    4, 6, 0, 0, 0, 1, 1, 1, 0, 2, 0, 1, 0, 7, 0, 0, 0, // thread 3
-];
+use worked::WORKED;
 
 // One thread with no instruction.
 const EMPTY: [u8; 18] = [1, 0, 0, 0, 0, 0, 0, 0, 0, 1, 1, 1, 1, 1, 1, 1, 1, 0];

@@ -29,11 +29,7 @@ fn main(rt: HostRuntime) -> anyhow::Result<()> {
 }
 
 // How the replay of a program's bytes and then a trace file's ends, and its machine then.
-fn replayed(
-    room: Room,
-    trace_room: TraceRoom,
-    input: &[u8],
-) -> Result<(Ending, Machine), Refusal> {
+fn replayed(room: Room, trace_room: TraceRoom, input: &[u8]) -> Result<(Ending, Machine), Refusal> {
     let (program, taken) = Program::read(room, input)?;
     let trace = read(trace_room, input.get(taken..).unwrap_or(&[]))?;
     let mut replay = Replay::new(&program, &trace)?;

@@ -18,7 +18,12 @@ pub(crate) fn keep(rt: &HostRuntime) -> anyhow::Result<()> {
         Ok(length) => {
             println!(rt; "It is written as a file of {length} bytes.")?;
             print!(rt; "  The section of v0:")?;
-            for event in [&buffer[136..140], &buffer[140..144], &buffer[144..150], &buffer[150..154]] {
+            for event in [
+                &buffer[136..140],
+                &buffer[140..144],
+                &buffer[144..150],
+                &buffer[150..154],
+            ] {
                 hexadecimal(rt, event)?;
             }
             println!(rt; "")?;

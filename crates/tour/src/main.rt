@@ -93,18 +93,22 @@ fn object(rt: &HostRuntime, machine: &Machine, action: Action) -> anyhow::Result
             if let Some(item) = machine.variable(v) {
                 println!(rt;
                     "    v{v} is {}, version {}, reads made of it {}",
-                    item.value,
-                    item.version,
-                    item.made
+                    item.value, item.version, item.made
                 )?;
             }
         }
-        Action::Sync { operation: Operation::P | Operation::V, number } => {
+        Action::Sync {
+            operation: Operation::P | Operation::V,
+            number,
+        } => {
             if let Some(value) = machine.semaphore(number) {
                 println!(rt; "    s{number} is {value}")?;
             }
         }
-        Action::Sync { operation: Operation::Lock | Operation::Unlock, number } => {
+        Action::Sync {
+            operation: Operation::Lock | Operation::Unlock,
+            number,
+        } => {
             if let Some(holder) = machine.holder(number) {
                 println!(rt; "    l{number} has the holder {holder}")?;
             }

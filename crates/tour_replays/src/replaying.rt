@@ -119,7 +119,10 @@ fn compare(rt: &HostRuntime, program: &Program, machine: &Machine) -> anyhow::Re
     for thread in ORDER {
         let _ = ran.step(program, thread);
     }
-    println!(rt; "The machine is the same as after the run: {}.", ran == *machine)?;
+    println!(rt;
+        "The machine is the same as after the run: {}.",
+        ran == *machine
+    )?;
     Ok(())
 }
 
