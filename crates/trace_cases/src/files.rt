@@ -1,5 +1,5 @@
 // Trace files, whole and damaged, and what the reader and the writer make of each.
-use refusal::Object;
+use refusal::{Object, Refusal};
 use std::process::Abort;
 use std::test::Fail;
 use trace::draft::Draft;
@@ -14,7 +14,7 @@ fn outcome(rt: &HostRuntime, bytes: &[u8]) -> Result<Outcome, Fail> {
     Ok(match read(Room::reserve(rt.alloc())?, bytes) {
         Ok(_) => None,
         Err(fault) => {
-            let refusal = fault.refusal();
+            let refusal = Refusal::from(fault);
             Some((refusal.number, refusal.place, refusal.object))
         }
     })
@@ -127,7 +127,10 @@ fn a_buffer_too_short(rt: HostRuntime) -> Result<(), Fail> {
     let mut buffer = [170; 159];
     match write(&trace, &mut buffer) {
         Ok(_) => assert!(rt; false),
-        Err(fault) => assert_eq!(rt; (fault.refusal().number, fault.refusal().place), (17, None)),
+        Err(fault) => {
+            let refusal = Refusal::from(fault);
+            assert_eq!(rt; (refusal.number, refusal.place), (17, None));
+        }
     }
     assert!(rt; same(&buffer, &[170; 159]));
     let mut none = [];
