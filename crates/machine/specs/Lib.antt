@@ -4,4 +4,5 @@ pub mod Machine
 pub mod Rules
 pub mod Says
 pub mod View
+pub mod Actions
 pub mod Proper

@@ -1,6 +1,7 @@
 // The machine: threads over shared variables, semaphores and locks.
 #![tactic(auto)]
 
+pub mod action;
 pub mod state;
 pub mod step;
 
@@ -14,7 +15,7 @@ pub enum Operation {
 }
 
 // A thread: its registers, the place at which it stands, and how many steps it has made.
-#[derive(Clone, Copy)]
+#[derive(Clone, Copy, PartialEq, Eq, Debug)]
 pub struct Thread {
     pub registers: [u32; 4],
     pub place: u16,
@@ -22,7 +23,7 @@ pub struct Thread {
 }
 
 // What a variable holds: its value, how often it was written, and the reads made of this version.
-#[derive(Clone, Copy)]
+#[derive(Clone, Copy, PartialEq, Eq, Debug)]
 pub struct Item {
     pub value: u32,
     pub version: u16,
@@ -30,7 +31,7 @@ pub struct Item {
 }
 
 // The machine: threads from 1 on, and the objects of each kind from 0 on; a free lock's holder is 0.
-#[derive(Clone, Copy)]
+#[derive(Clone, Copy, PartialEq, Eq, Debug)]
 pub struct Machine {
     threads: [Thread; 8],
     variables: [Item; 16],

@@ -1,6 +1,6 @@
 // The machine at its start, and what it holds.
-ghost use Rattle.std.specs.Prelude.{◌≡◌, ◌&&◌, if◌then◌else◌, Some, None, nat_le, nat_lt};
-ghost use Rattle.machine.specs.Machine.{mutex, semaphore, start, total_steps, variable};
+ghost use Rattle.std.specs.Prelude.{◌≡◌, ℕ, ◌&&◌, if◌then◌else◌, Some, None, nat_le, nat_lt, slice_index_or};
+ghost use Rattle.machine.specs.Machine.{mutex, plain, semaphore, start, total_steps, variable};
 ghost use Rattle.machine.specs.Rules.{RunLaws};
 ghost use Rattle.machine.specs.View.{code_of, view};
 
@@ -79,6 +79,14 @@ impl Machine {
         let [a, b, c, d, e, f, g, h] = &self.threads;
         let upper = e.count as u32 + (f.count as u32 + (g.count as u32 + h.count as u32));
         a.count as u32 + (b.count as u32 + (c.count as u32 + (d.count as u32 + upper)))
+    }
+
+    // What the variables hold, from variable 0 on.
+    pub fn variables(&self) -> &[Item; 16]
+        ensures same { result.now ≡ self.now.variables }
+        ensures items { (n : ℕ) → slice_index_or result.now n (plain 0) ≡ (view self.now).item (variable n) }
+    {
+        &self.variables
     }
 
     // The variable's value, version and reads made of it.
