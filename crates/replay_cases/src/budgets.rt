@@ -1,7 +1,7 @@
 // How many steps a run may make.
 use crate::build::{bump, bump_trace, complete, op, program, spent, trace};
-use replay::faults::Fault;
 use replay::Replay;
+use replay::faults::Fault;
 use schedule::Turn;
 use std::test::Fail;
 

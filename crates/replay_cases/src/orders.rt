@@ -6,8 +6,8 @@ use crate::replays::always;
 use crate::steps::step;
 use machine::Operation;
 use refusal::Object;
-use replay::faults::Fault;
 use replay::Replay;
+use replay::faults::Fault;
 use schedule::Turn;
 use std::test::Fail;
 

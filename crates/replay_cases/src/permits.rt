@@ -2,8 +2,8 @@
 use crate::build::{bump, bump_trace, complete};
 use crate::replays::contents;
 use crate::steps::{Fate, exchange, hold, misplace, step, while_out};
-use replay::faults::Fault;
 use replay::Replay;
+use replay::faults::Fault;
 use schedule::Turn;
 use std::test::Fail;
 

@@ -53,6 +53,7 @@ pub enum Fate {
 // What `other`, of which no permit is out, makes of a permit of `own`.
 pub fn misplace(own: &mut Replay<'_>, other: &mut Replay<'_>, thread: u8) -> Result<Fate, Fault> {
     let permit = own.request(thread)?;
+    // a match, since it is the Ok that ends here, and with its count: neither `?` nor `let .. else` says that
     let Returned {
         permit,
         fault: performed,
@@ -82,6 +83,7 @@ pub fn exchange(
         return Err(Fail::new("the permits are alike"));
     }
     let permit = own.request(thread)?;
+    // a match, since `?` would let the permit go
     let out = match other.request(others) {
         Ok(out) => out,
         Err(fault) => {

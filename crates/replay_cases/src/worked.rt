@@ -48,12 +48,7 @@ fn one_step_too_few(rt: HostRuntime) -> Result<(), Fail> {
 // Thread 2 reads before the write: it reads 0.
 #[test]
 fn an_early_read(rt: HostRuntime) -> Result<(), Fail> {
-    let end = always(
-        &rt,
-        &bump(&rt)?,
-        &early_trace(&rt)?,
-        build::complete(6),
-    )?;
+    let end = always(&rt, &bump(&rt)?, &early_trace(&rt)?, build::complete(6))?;
     assert_eq!(rt; end.values[0], 1);
     assert_eq!(rt; end.registers, [0, 0, 1, 0, 0, 0, 0, 0]);
     Ok(())
