@@ -40,16 +40,19 @@ pub record Became (r : Replay) (s : Replaying) (x : Replay) : Type 0 where
   pub same : SameParts r x
 
 module _ (r : Replay) where
-  -- what each call of the replay comes to
+  -- what a request for thread i comes to
   abbrev pub requested : ℕ → Outcome (Result Permit Fault)
   requested i = requests (program_of r) (trace_of r) (shown r) i
 
+  -- what performing the permit q comes to
   abbrev pub performed : Permit → Outcome (Result ℕ Returned)
   performed q = performs (program_of r) (shown r) q
 
+  -- what handing back the permit q comes to
   abbrev pub handed_back : Permit → Outcome (Result (Unit {0}) Returned)
   handed_back q = hands_back (shown r) q
 
+  -- what a run of n steps under f comes to
   abbrev pub ran : ℕ → Strategy → Ran
   ran n f = runs (program_of r) (trace_of r) n (shown r) f
 

@@ -1,17 +1,9 @@
 // How many steps a run may make.
-use crate::build::{bump, bump_trace, op, program, trace};
+use crate::build::{bump, bump_trace, complete, op, program, spent, trace};
+use replay::Replay;
 use replay::faults::Fault;
-use replay::{Ending, Replay};
 use schedule::Turn;
 use std::test::Fail;
-
-fn complete(steps: u32) -> Result<Ending, Fault> {
-    Ok(Ending::Complete { steps })
-}
-
-fn spent(steps: u32) -> Result<Ending, Fault> {
-    Ok(Ending::Spent { steps })
-}
 
 // A replay that needs 6 steps.
 #[test]
@@ -76,14 +68,7 @@ fn none_at_the_end(rt: HostRuntime) -> Result<(), Fail> {
 #[test]
 fn the_most_steps(rt: HostRuntime) -> Result<(), Fail> {
     let circle = [op(5, 0, 0)];
-    let circles = program(
-        &rt,
-        0,
-        1,
-        &[
-            &circle, &circle, &circle, &circle, &circle, &circle, &circle, &circle,
-        ],
-    )?;
+    let circles = program(&rt, 0, 1, &[circle.as_slice(); 8])?;
     let trace = trace(&rt, &[], &[65535; 8])?;
     let mut replay = Replay::new(&circles, &trace)?;
     assert_eq!(rt; replay.run(524_279, &mut Turn::new(1)), spent(524_279));

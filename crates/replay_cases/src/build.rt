@@ -2,6 +2,8 @@
 use machine::{Machine, Operation};
 use program::{Instruction, Program};
 use refusal::Object;
+use replay::Ending;
+use replay::faults::Fault;
 use std::process::Abort;
 use std::test::Fail;
 use trace::access::place_of;
@@ -27,6 +29,16 @@ pub fn write(thread: u8, version: u16, reads: u16) -> Event {
 
 pub fn sync(thread: u8, operation: Operation) -> Event {
     Event::Sync { thread, operation }
+}
+
+// The end of a run that is complete after so many steps.
+pub fn complete(steps: u32) -> Result<Ending, Fault> {
+    Ok(Ending::Complete { steps })
+}
+
+// The end of a run whose budget is used up after so many.
+pub fn spent(steps: u32) -> Result<Ending, Fault> {
+    Ok(Ending::Spent { steps })
 }
 
 // A program of these threads, every semaphore with this start and limit.

@@ -219,7 +219,7 @@ fn numbers(rt: HostRuntime) -> Result<(), Fail> {
             place,
             object,
         };
-        assert_eq!(rt; fault.refusal(), refusal);
+        assert_eq!(rt; Refusal::from(fault), refusal);
     }
     Ok(())
 }

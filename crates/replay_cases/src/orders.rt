@@ -1,17 +1,15 @@
 // Which orders of steps a trace allows.
-use crate::build::{bump, early_trace, of_variable_0, op, program, read, sync, trace, write};
+use crate::build::{
+    bump, complete, early_trace, of_variable_0, op, program, read, spent, sync, trace, write,
+};
 use crate::replays::always;
 use crate::steps::step;
 use machine::Operation;
 use refusal::Object;
+use replay::Replay;
 use replay::faults::Fault;
-use replay::{Ending, Replay};
 use schedule::Turn;
 use std::test::Fail;
-
-fn complete(steps: u32) -> Result<Ending, Fault> {
-    Ok(Ending::Complete { steps })
-}
 
 // Thread 1 is not on turn until both others have written; a thread that has to wait ends no replay.
 #[test]
@@ -24,10 +22,7 @@ fn a_thread_waits_for_its_turn(rt: HostRuntime) -> Result<(), Fail> {
     let trace = of_variable_0(&rt, &events, &[1, 2, 2])?;
     let mut replay = Replay::new(&waits, &trace)?;
     assert_eq!(rt; step(&mut replay, 1), Err(Fault::NotPermitted));
-    assert_eq!(rt;
-        replay.run(2, &mut Turn::new(1)),
-        Ok(Ending::Spent { steps: 2 })
-    );
+    assert_eq!(rt; replay.run(2, &mut Turn::new(1)), spent(2));
     assert_eq!(rt; step(&mut replay, 2), Err(Fault::NotPermitted));
     let end = always(&rt, &waits, &trace, complete(5))?;
     assert_eq!(rt; (end.values[0], end.registers[0]), (5, 5));

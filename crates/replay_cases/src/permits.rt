@@ -1,13 +1,11 @@
 // Steps by permit, and permits that are refused.
-use crate::build::{bump, bump_trace};
+use crate::build::{bump, bump_trace, complete};
 use crate::replays::contents;
 use crate::steps::{Fate, exchange, hold, misplace, step, while_out};
+use replay::Replay;
 use replay::faults::Fault;
-use replay::{Ending, Replay};
 use schedule::Turn;
 use std::test::Fail;
-
-const COMPLETE: Result<Ending, Fault> = Ok(Ending::Complete { steps: 6 });
 
 // Each step answers the thread's count.
 #[test]
@@ -18,7 +16,7 @@ fn the_worked_run(rt: HostRuntime) -> Result<(), Fail> {
         assert_eq!(rt; step(&mut replay, thread), Ok(count));
     }
     assert_eq!(rt; replay.steps(), 6);
-    assert_eq!(rt; replay.run(0, &mut Turn::new(1)), COMPLETE);
+    assert_eq!(rt; replay.run(0, &mut Turn::new(1)), complete(6));
     Ok(())
 }
 
@@ -48,7 +46,7 @@ fn not_permitted(rt: HostRuntime) -> Result<(), Fail> {
     assert_eq!(rt; replay.steps(), 0);
     assert_eq!(rt; step(&mut replay, 1), Ok(1));
     assert_eq!(rt; step(&mut replay, 1), Err(Fault::NotPermitted));
-    assert_eq!(rt; replay.run(100, &mut Turn::new(1)), COMPLETE);
+    assert_eq!(rt; replay.run(100, &mut Turn::new(1)), complete(6));
     Ok(())
 }
 
@@ -67,7 +65,7 @@ fn a_permit_is_out(rt: HostRuntime) -> Result<(), Fail> {
     }
     assert_eq!(rt; replay.steps(), 1);
     assert_eq!(rt; contents(replay.machine()), before);
-    assert_eq!(rt; replay.run(100, &mut Turn::new(1)), COMPLETE);
+    assert_eq!(rt; replay.run(100, &mut Turn::new(1)), complete(6));
     Ok(())
 }
 
@@ -81,7 +79,7 @@ fn handed_back(rt: HostRuntime) -> Result<(), Fail> {
     assert_eq!(rt; hold(&mut replay, 1), Ok(()));
     assert_eq!(rt; replay.steps(), 0);
     assert_eq!(rt; contents(replay.machine()), before);
-    assert_eq!(rt; replay.run(100, &mut Turn::new(1)), COMPLETE);
+    assert_eq!(rt; replay.run(100, &mut Turn::new(1)), complete(6));
     Ok(())
 }
 
@@ -96,8 +94,8 @@ fn none_is_out(rt: HostRuntime) -> Result<(), Fail> {
         Ok(Fate::Refused(Fault::WrongPermit, Fault::WrongPermit))
     );
     assert_eq!(rt; (own.steps(), other.steps()), (0, 0));
-    assert_eq!(rt; own.run(100, &mut Turn::new(1)), COMPLETE);
-    assert_eq!(rt; other.run(100, &mut Turn::new(1)), COMPLETE);
+    assert_eq!(rt; own.run(100, &mut Turn::new(1)), complete(6));
+    assert_eq!(rt; other.run(100, &mut Turn::new(1)), complete(6));
     Ok(())
 }
 
@@ -112,8 +110,8 @@ fn another_thread(rt: HostRuntime) -> Result<(), Fail> {
         (Fault::WrongPermit, Fault::WrongPermit)
     );
     assert_eq!(rt; (own.steps(), other.steps()), (0, 0));
-    assert_eq!(rt; own.run(100, &mut Turn::new(1)), COMPLETE);
-    assert_eq!(rt; other.run(100, &mut Turn::new(1)), COMPLETE);
+    assert_eq!(rt; own.run(100, &mut Turn::new(1)), complete(6));
+    assert_eq!(rt; other.run(100, &mut Turn::new(1)), complete(6));
     Ok(())
 }
 
@@ -129,7 +127,7 @@ fn another_step(rt: HostRuntime) -> Result<(), Fail> {
         (Fault::WrongPermit, Fault::WrongPermit)
     );
     assert_eq!(rt; (own.steps(), other.steps()), (0, 1));
-    assert_eq!(rt; own.run(100, &mut Turn::new(1)), COMPLETE);
-    assert_eq!(rt; other.run(100, &mut Turn::new(1)), COMPLETE);
+    assert_eq!(rt; own.run(100, &mut Turn::new(1)), complete(6));
+    assert_eq!(rt; other.run(100, &mut Turn::new(1)), complete(6));
     Ok(())
 }

@@ -16,18 +16,12 @@ pub struct Held {
 }
 
 pub fn contents(machine: &Machine) -> Held {
-    let mut values = [0; 16];
-    for v in 0..16u8 {
-        if let Some(item) = machine.variable(v) {
-            values[v as usize] = item.value;
-        }
-    }
-    let mut registers = [0; 8];
-    for i in 0..8u8 {
-        if let Some(thread) = machine.thread(i + 1) {
-            registers[i as usize] = thread.registers[0];
-        }
-    }
+    let values = machine.variables().map(|item| item.value);
+    let registers = [1, 2, 3, 4, 5, 6, 7, 8].map(|thread| {
+        machine
+            .thread(thread)
+            .map_or(0, |thread| thread.registers[0])
+    });
     Held { values, registers }
 }
 

@@ -1,8 +1,7 @@
 // Runs that are recorded in one order, and replayed in others.
-use crate::build::{op, program, recorded};
+use crate::build::{complete, op, program, recorded};
 use crate::replays::{always, contents};
 use program::Program;
-use replay::Ending;
 use std::process::Abort;
 use std::test::Fail;
 
@@ -26,7 +25,7 @@ fn replayed(rt: &(impl Abort + AllocGlobal), order: &[u8]) -> Result<u32, Fail> 
     let shared = shared(rt)?;
     let (machine, trace) = recorded(rt, &shared, order)?;
     let steps = u32::try_from(order.len())?;
-    let end = always(rt, &shared, &trace, Ok(Ending::Complete { steps }))?;
+    let end = always(rt, &shared, &trace, complete(steps))?;
     assert_eq!(rt; end, contents(&machine));
     Ok(end.values[1])
 }

@@ -12,19 +12,13 @@ use std::test::Fail;
 fn give_back(replay: &mut Replay<'_>, permit: Permit)
     requires { holds (shown replay.old) permit ≡ true }
 {
-    match replay.hand_back(permit) {
-        Ok(()) => {}
-        Err(_) => unreachable(),
-    }
+    replay.hand_back(permit).unwrap();
 }
 
 // A step of the thread by permit, and the thread's count.
 pub fn step(replay: &mut Replay<'_>, thread: u8) -> Result<u16, Fault> {
     let permit = replay.request(thread)?;
-    match replay.perform(permit) {
-        Ok(count) => Ok(count),
-        Err(_) => unreachable(),
-    }
+    Ok(replay.perform(permit).unwrap())
 }
 
 // A permit for the thread, handed back.
@@ -41,10 +35,7 @@ pub fn while_out(
     other: u8,
 ) -> Result<(Fault, Result<Ending, Fault>), Fault> {
     let permit = replay.request(thread)?;
-    let second = match replay.request(other) {
-        Ok(_) => unreachable(),
-        Err(fault) => fault,
-    };
+    let second = replay.request(other).unwrap_err();
     let run = replay.run(100, &mut Turn::new(1));
     give_back(replay, permit);
     Ok((second, run))
@@ -62,6 +53,7 @@ pub enum Fate {
 // What `other`, of which no permit is out, makes of a permit of `own`.
 pub fn misplace(own: &mut Replay<'_>, other: &mut Replay<'_>, thread: u8) -> Result<Fate, Fault> {
     let permit = own.request(thread)?;
+    // a match, since it is the Ok that ends here, and with its count: neither `?` nor `let .. else` says that
     let Returned {
         permit,
         fault: performed,
@@ -91,6 +83,7 @@ pub fn exchange(
         return Err(Fail::new("the permits are alike"));
     }
     let permit = own.request(thread)?;
+    // a match, since `?` would let the permit go
     let out = match other.request(others) {
         Ok(out) => out,
         Err(fault) => {
@@ -98,14 +91,14 @@ pub fn exchange(
             return Err(fault.into());
         }
     };
-    let (permit, performed) = match other.perform(permit) {
-        Ok(_) => unreachable(),
-        Err(Returned { permit, fault }) => (permit, fault),
-    };
-    let (permit, handed) = match other.hand_back(permit) {
-        Ok(_) => unreachable(),
-        Err(Returned { permit, fault }) => (permit, fault),
-    };
+    let Returned {
+        permit,
+        fault: performed,
+    } = other.perform(permit).unwrap_err();
+    let Returned {
+        permit,
+        fault: handed,
+    } = other.hand_back(permit).unwrap_err();
     give_back(own, permit);
     give_back(other, out);
     Ok((performed, handed))

@@ -1,8 +1,7 @@
 // The worked program, and what becomes of its traces.
-use crate::build::{bump, bump_trace, early_trace};
+use crate::build::{self, bump, bump_trace, early_trace};
 use crate::replays::always;
 use refusal::Object;
-use replay::Ending;
 use replay::faults::Fault;
 use std::test::Fail;
 
@@ -13,7 +12,7 @@ fn complete(rt: HostRuntime) -> Result<(), Fail> {
         &rt,
         &bump(&rt)?,
         &bump_trace(&rt, &[1, 1, 4])?,
-        Ok(Ending::Complete { steps: 6 }),
+        build::complete(6),
     )?;
     assert_eq!(rt; end.values[0], 1);
     assert_eq!(rt; end.registers, [0, 1, 1, 0, 0, 0, 0, 0]);
@@ -49,12 +48,7 @@ fn one_step_too_few(rt: HostRuntime) -> Result<(), Fail> {
 // Thread 2 reads before the write: it reads 0.
 #[test]
 fn an_early_read(rt: HostRuntime) -> Result<(), Fail> {
-    let end = always(
-        &rt,
-        &bump(&rt)?,
-        &early_trace(&rt)?,
-        Ok(Ending::Complete { steps: 6 }),
-    )?;
+    let end = always(&rt, &bump(&rt)?, &early_trace(&rt)?, build::complete(6))?;
     assert_eq!(rt; end.values[0], 1);
     assert_eq!(rt; end.registers, [0, 0, 1, 0, 0, 0, 0, 0]);
     Ok(())
