@@ -3,7 +3,8 @@
 
 mod keeping;
 
-use machine::{Action, Machine, Operation};
+use machine::action::Action;
+use machine::{Machine, Operation};
 use program::{Instruction, Program, Room};
 use refusal::Refusal;
 use worked::{ORDER, WORKED};
