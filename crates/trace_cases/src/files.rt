@@ -31,18 +31,19 @@ fn worked_file(rt: &(impl Abort + AllocGlobal)) -> Result<[u8; 160], Fail> {
     Ok(buffer)
 }
 
-// A file of T threads in which only the section at a place, below 32, has bytes, and all counts are 0.
+// A file of T threads in which only the section at a place has bytes, and all counts are 0.
 fn file(rt: &HostRuntime, threads: u8, place: usize, section: &[u8]) -> Result<Vec<u8>, Fail> {
     let mut bytes = [4, 0, threads, 0].to_vec(rt.alloc())?;
     let mut sizes = [0; 33];
     sizes[32] = 2 * u16::from(threads);
-    assert!(rt; place < 32);
-    sizes[place] = u16::try_from(section.len())?;
+    *sizes.get_mut(place).ok_or("no such section")? = u16::try_from(section.len())?;
     let mut offset = 136u16;
     for size in sizes {
         bytes.extend_from_slice(&offset.to_le_bytes())?;
         bytes.extend_from_slice(&size.to_le_bytes())?;
-        offset = offset.checked_add(size).ok_or("a longer file than there is")?;
+        offset = offset
+            .checked_add(size)
+            .ok_or("a longer file than there is")?;
     }
     bytes.extend_from_slice(section)?;
     bytes.resize(bytes.len() + 2 * usize::from(threads), 0)?;
