@@ -12,30 +12,28 @@ use Rattle.trace.specs.History.{Logged, event, logged_at}
 use Rattle.trace.specs.Traces.{position}
 use Rattle.following.specs.Following.{Progress, meets, due, turn_at}
 use Rattle.following.specs.View.{Inside}
+use Rattle.following.proofs.Events.{no_clash}
 use Rattle.following.proofs.Positions.{within_place}
-
-clash : {X : Type 0} → ◌≡◌ {A = ℕ} 0 1 → X
-clash h = absurd (let z : ⊥ = omega arith in z)
 
 abbrev on_it : Object → Event → Logged
 on_it o e = record { on = o; what = e }
 
 one : (es : List Event) (o u : Object) (e : Event) → on_it o e ∷ [] ≡ map (on_it u) es → (o ≡ u) × (e ∷ [] ≡ es)
-one [] o u e h = clash (cc)
+one [] o u e h = no_clash (cc)
 one (x ∷ []) o u e h =
     let same : on_it o e ≡ on_it u x = cc in
     (ap (λ (l : Logged). l.on) same, ap (λ (l : Logged). l.what ∷ []) same)
-one (x ∷ y ∷ es) o u e h = let tail : [] ≡ on_it u y ∷ map (on_it u) es = cc in clash (cc)
+one (x ∷ y ∷ es) o u e h = let tail : [] ≡ on_it u y ∷ map (on_it u) es = cc in no_clash (cc)
 
 -- an instruction with an event is on an object
 pub with_object : (i : ℕ) (c : Instr) (x : Item) (e : Event) → e ∷ [] ≡ event i c x → object c ≢ nothing
-with_object i (Instr.local c) x e h = clash (cc)
-with_object i (Instr.read a v) x e h = λ n. clash (cc)
-with_object i (Instr.write a v) x e h = λ n. clash (cc)
-with_object i (Instr.synchronise P k) x e h = λ n. clash (cc)
-with_object i (Instr.synchronise V k) x e h = λ n. clash (cc)
-with_object i (Instr.synchronise op.Lock k) x e h = λ n. clash (cc)
-with_object i (Instr.synchronise Unlock k) x e h = λ n. clash (cc)
+with_object i (Instr.local c) x e h = no_clash (cc)
+with_object i (Instr.read a v) x e h = λ n. no_clash (cc)
+with_object i (Instr.write a v) x e h = λ n. no_clash (cc)
+with_object i (Instr.synchronise P k) x e h = λ n. no_clash (cc)
+with_object i (Instr.synchronise V k) x e h = λ n. no_clash (cc)
+with_object i (Instr.synchronise op.Lock k) x e h = λ n. no_clash (cc)
+with_object i (Instr.synchronise Unlock k) x e h = λ n. no_clash (cc)
 
 module _ (p : Code) (m : State) (i : ℕ) where
   -- thread i stands at an instruction on object o, whose event is e
@@ -49,7 +47,7 @@ module _ (p : Code) (m : State) (i : ℕ) where
   accesses o e h = go (here p m i) refl h
     where
       go : (u : Option Instr) → here p m i ≡ u → on_it o e ∷ [] ≡ logged_at u i m → Accesses o e
-      go none is h = clash (cc)
+      go none is h = no_clash (cc)
       go (some c) is h = let w = one (event i c (m.item (object c))) o (object c) e h in record { c = c; is = is; on = w.0; what = w.1 }
 
   -- the thread and the object's place can have an event due
@@ -69,8 +67,8 @@ local_turn p r i a h = go (here p r.machine i) a h
   where
     at : (c : Instr) (es : List Event) → [] ≡ map (on_it (object c)) es → meets es (due i c (r.left (object c))) ≡ true
     at c [] h = refl
-    at c (e ∷ es) h = clash (cc)
+    at c (e ∷ es) h = no_clash (cc)
 
     go : (u : Option Instr) → able_at p r.machine i u ≡ true → [] ≡ logged_at u i r.machine → turn_at u i r ≡ true
-    go none a h = clash (cc)
+    go none a h = no_clash (cc)
     go (some c) a h = at c (event i c (r.machine.item (object c))) h

@@ -1,6 +1,5 @@
 pub mod Cursors
 pub mod Lengths
-pub mod FromFn
 pub mod Positions
 pub mod Accessed
 pub mod Due

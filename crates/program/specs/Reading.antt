@@ -1,19 +1,10 @@
 -- What a program's bytes say, or the place of the first field that is wrong or missing.
 use Rattle.std.specs.Prelude.{ℕ, zero, suc, ◌+◌, ◌-◌, ◌*◌, max, cond, ◌&&◌, List, [], ◌∷◌, ◌++◌, length, take, drop, Ok, Err, Result, nat_le, nat_lt, slice_index, slice_index_or}
 use Rattle.program.specs.Form.{a_bound, b_bound, Parts}
+pub use Rattle.program.specs.Answers.{then, over}
 use Rattle.program.specs.declared.Instruction.{Instruction}
 use Rattle.program.specs.declared.faults.Fault.{Fault}
 use Rattle.program.specs.declared.faults.Fault.TheVariants.{Malformed}
-
--- one reading after another: the first refusal is that of the whole
-abbrev pub then : {A B : Type 0} → Result A Fault → (A → Result B Fault) → Result B Fault
-then (Ok x) f = f x
-then (Err e) f = Err e
-
--- an answer with f of its value
-abbrev pub over : {A B : Type 0} → (A → B) → Result A Fault → Result B Fault
-over f (Ok x) = Ok (f x)
-over f (Err e) = Err e
 
 -- the byte at a place, from low to high
 abbrev pub byte : List ℕ → ℕ → ℕ → ℕ → Result ℕ Fault

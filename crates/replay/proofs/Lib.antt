@@ -5,4 +5,3 @@ pub mod Promises
 pub mod Called
 pub mod Going
 pub mod Worked
-pub mod Mapped

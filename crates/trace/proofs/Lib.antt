@@ -7,3 +7,4 @@ pub mod Logs
 pub mod Runs
 pub mod Acts
 pub mod Searches
+pub mod Made

@@ -2,7 +2,7 @@ use Rattle.std.proofs.Common.{ℕ, List, [], replicate, ap, rules, tests}
 use Rattle.following.specs.declared.used.Used.{Used}
 use Rattle.following.specs.Cursors.{firsts}
 use Rattle.following.specs.View.{row}
-use Rattle.following.proofs.FromFn.{made_by}
+use Rattle.trace.proofs.Made.{made_by}
 use Rattle.following.proofs.used.Used.none.Goals as goal
 
 pub returns : goal.returns
