@@ -30,7 +30,8 @@ pub struct Item {
     pub made: u16,
 }
 
-// The machine: threads from 1 on, and the objects of each kind from 0 on; a free lock's holder is 0.
+// The machine: threads from 1 on, and the objects of each kind from 0 on. A free lock's holder is 0, since in the rules
+// the value of every object is a number. It does not hold its program, so that it can be copied and compared alone.
 #[derive(Clone, Copy, PartialEq, Eq, Debug)]
 pub struct Machine {
     threads: [Thread; 8],

@@ -8,14 +8,14 @@ ghost use Rattle.program.specs.Rooms.{spare};
 use crate::faults::Fault;
 use crate::{Instruction, Room};
 
-// Bytes, and the place of the next field.
+// Bytes, and the place of the next field. Each method says that the bytes stay, since behind a `&mut` any field may change.
 #[derive(Drop)]
 pub(crate) struct Reader<'a> {
     pub bytes: &'a [u8],
     pub at: usize,
 }
 
-// What an instruction's a is below: it is a register, or 0 where the code has no use for it.
+// What an instruction's a is below, by ranges of its code: it is a register, or 0 where the code has no use for it.
 fn a_bound(code: u8) -> u8
     ensures { result ≡ a_bound code }
 {
@@ -26,7 +26,7 @@ fn a_bound(code: u8) -> u8
     }
 }
 
-// What an instruction's b is below, in a thread of n instructions.
+// What an instruction's b is below, by ranges of its code, in a thread of n instructions.
 fn b_bound(n: u8, code: u8) -> u32
     ensures { result ≡ b_bound n code }
 {

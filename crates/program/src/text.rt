@@ -1,4 +1,4 @@
-// Instructions as text.
+// Instructions as text, by their codes, which are numbers (see `Instruction`).
 use crate::Instruction;
 use std::fmt;
 

@@ -44,7 +44,7 @@ impl ThreadSet {
         self.len() == 0
     }
 
-    // How many threads are in the set.
+    // How many threads are in the set. A sum: `filter` and `count` took twice a loop's time, and each step of a run asks.
     pub fn len(&self) -> u32
         ensures { result ≡ length (threads self.now) }
     {
@@ -63,7 +63,7 @@ impl ThreadSet {
             .nth(n as usize)
     }
 
-    // The lowest thread of the set that is above the number.
+    // The lowest thread of the set that is above the number. A `for`: a chain with `find` took almost twice its time.
     pub fn first_above(&self, number: u8) -> Option<u8>
         ensures { result ≡ found_above number (threads self.now) }
     {
