@@ -2,23 +2,27 @@
 #![tactic(auto)]
 
 use anyhow::anyhow;
-use program::{Program, Room};
+use program::{Instruction, Program, Room};
 use refusal::Refusal;
+use trace::Room as TraceRoom;
 use trace::draft::Draft;
-use trace::{Event, Room as TraceRoom};
+use worked::build::{bytes, op, read};
 
 fn main(rt: HostRuntime) -> anyhow::Result<()> {
     limits(&rt)
 }
 
 fn limits(rt: &HostRuntime) -> anyhow::Result<()> {
-    for n in [0, 128, 129] {
-        print!(rt; "{n} instructions: ")?;
-        program(rt, 1, n)?;
+    // each `set r0 to 0`
+    let text = [op(1, 0, 0); 129];
+    for text in [&text[..0], &text[..128], &text] {
+        print!(rt; "{} instructions: ", text.len())?;
+        program(rt, &[text])?;
     }
-    for threads in [8, 9] {
-        print!(rt; "{threads} threads: ")?;
-        program(rt, threads, 0)?;
+    let texts: [&[Instruction]; 9] = [&[]; 9];
+    for texts in [&texts[..8], &texts] {
+        print!(rt; "{} threads: ", texts.len())?;
+        program(rt, texts)?;
     }
     for n in [1024, 1025] {
         print!(rt; "{n} events: ")?;
@@ -27,19 +31,9 @@ fn limits(rt: &HostRuntime) -> anyhow::Result<()> {
     Ok(())
 }
 
-// A program of so many threads, the first of n instructions, each `set r0 to 0`.
-fn program(rt: &HostRuntime, threads: u8, n: u8) -> anyhow::Result<()> {
-    let mut bytes = Vec::new(rt.alloc());
-    bytes.push(threads)?;
-    bytes.extend_from_slice(&[0; 8])?;
-    bytes.extend_from_slice(&[1; 8])?;
-    bytes.push(n)?;
-    for _ in 0..n {
-        bytes.extend_from_slice(&[1, 0, 0, 0])?;
-    }
-    for _ in 1..threads {
-        bytes.push(0)?;
-    }
+// A program of these threads.
+fn program(rt: &HostRuntime, texts: &[&[Instruction]]) -> anyhow::Result<()> {
+    let bytes = bytes(rt.alloc(), 0, 1, texts)?;
     match Program::read(Room::reserve(rt.alloc())?, bytes.as_slice()) {
         Ok((program, taken)) => println!(rt;
             "accepted, threads {}, bytes {taken}",
@@ -56,13 +50,7 @@ fn trace(rt: &HostRuntime, n: u16) -> anyhow::Result<()> {
         return Err(anyhow!("no draft of one thread"));
     };
     for _ in 0..n {
-        let _ = draft.add(
-            0,
-            Event::Read {
-                thread: 1,
-                version: 0,
-            },
-        );
+        let _ = draft.add(0, read(1, 0));
     }
     match draft.finish() {
         Ok(trace) => println!(rt; "accepted, events {}", trace.sequence_at(0).len())?,

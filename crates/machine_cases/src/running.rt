@@ -3,10 +3,7 @@ use machine::Machine;
 use program::{Instruction, Program, Room};
 use std::process::Abort;
 use std::test::Fail;
-
-const fn op(code: u8, a: u8, b: u16) -> Instruction {
-    Instruction { code, a, b }
-}
+use worked::build::{bytes, op};
 
 // A program of these threads, every semaphore with this start and limit.
 fn program(
@@ -15,23 +12,7 @@ fn program(
     limit: u8,
     texts: &[&[Instruction]],
 ) -> Result<Program, Fail> {
-    let mut bytes = Vec::new(rt.alloc());
-    bytes.push(u8::try_from(texts.len())?)?;
-    for byte in [start, limit] {
-        for _ in 0..8 {
-            bytes.push(byte)?;
-        }
-    }
-    for text in texts {
-        bytes.push(u8::try_from(text.len())?)?;
-        for i in *text {
-            bytes.push(i.code)?;
-            bytes.push(i.a)?;
-            for byte in i.b.to_le_bytes() {
-                bytes.push(byte)?;
-            }
-        }
-    }
+    let bytes = bytes(rt.alloc(), start, limit, texts)?;
     let (program, taken) = Program::read(Room::reserve(rt.alloc())?, bytes.as_slice())?;
     assert_eq!(rt; taken, bytes.len());
     Ok(program)

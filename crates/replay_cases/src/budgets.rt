@@ -1,9 +1,10 @@
 // How many steps a run may make.
-use crate::build::{bump, bump_trace, complete, op, program, spent, trace};
+use crate::build::{bump, bump_trace, complete, program, spent, trace};
 use replay::Replay;
 use replay::faults::Fault;
 use schedule::Turn;
 use std::test::Fail;
+use worked::build::op;
 
 // A replay that needs 6 steps.
 #[test]

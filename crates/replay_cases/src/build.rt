@@ -1,5 +1,5 @@
 // Programs and traces for the cases.
-use machine::{Machine, Operation};
+use machine::Machine;
 use program::{Instruction, Program};
 use refusal::Object;
 use replay::Ending;
@@ -10,26 +10,7 @@ use trace::access::place_of;
 use trace::draft::Draft;
 use trace::next::Access;
 use trace::{Event, Trace};
-
-pub fn op(code: u8, a: u8, b: u16) -> Instruction {
-    Instruction { code, a, b }
-}
-
-pub fn read(thread: u8, version: u16) -> Event {
-    Event::Read { thread, version }
-}
-
-pub fn write(thread: u8, version: u16, reads: u16) -> Event {
-    Event::Write {
-        thread,
-        version,
-        reads,
-    }
-}
-
-pub fn sync(thread: u8, operation: Operation) -> Event {
-    Event::Sync { thread, operation }
-}
+use worked::build::{bytes, read, write};
 
 // The end of a run that is complete after so many steps.
 pub fn complete(steps: u32) -> Result<Ending, Fault> {
@@ -48,23 +29,7 @@ pub fn program(
     limit: u8,
     texts: &[&[Instruction]],
 ) -> Result<Program, Fail> {
-    let mut bytes = Vec::new(rt.alloc());
-    bytes.push(u8::try_from(texts.len())?)?;
-    for byte in [start, limit] {
-        for _ in 0..8 {
-            bytes.push(byte)?;
-        }
-    }
-    for text in texts {
-        bytes.push(u8::try_from(text.len())?)?;
-        for i in *text {
-            bytes.push(i.code)?;
-            bytes.push(i.a)?;
-            for byte in i.b.to_le_bytes() {
-                bytes.push(byte)?;
-            }
-        }
-    }
+    let bytes = bytes(rt.alloc(), start, limit, texts)?;
     let (program, taken) = Program::read(program::Room::reserve(rt.alloc())?, bytes.as_slice())?;
     assert_eq!(rt; taken, bytes.len());
     Ok(program)
@@ -123,17 +88,17 @@ pub fn recorded(
     Ok((machine, draft.finish()?))
 }
 
-// Threads 1 and 2 read variable 0; thread 3 reads it and writes 1 more back.
+// The worked program: threads 1 and 2 read variable 0; thread 3 reads it and writes 1 more back.
 pub fn bump(rt: &(impl Abort + AllocGlobal)) -> Result<Program, Fail> {
-    let reads = [op(6, 0, 0)];
-    let bumps = [op(6, 0, 0), op(1, 1, 1), op(2, 0, 1), op(7, 0, 0)];
-    program(rt, 0, 1, &[&reads, &reads, &bumps])
+    let room = program::Room::reserve(rt.alloc())?;
+    let (program, taken) = Program::read(room, &worked::WORKED)?;
+    assert_eq!(rt; taken, worked::WORKED.len());
+    Ok(program)
 }
 
 // The trace of its run 3, 1, 3, 3, 3, 2, with counts of one's own.
-pub fn bump_trace(rt: &(impl Abort + AllocGlobal), counts: &[u16; 3]) -> Result<Trace, Fail> {
-    let events = [read(3, 0), read(1, 0), write(3, 0, 2), read(2, 1)];
-    of_variable_0(rt, &events, counts)
+pub fn bump_trace(rt: &impl AllocGlobal, counts: &[u16; 3]) -> Result<Trace, Fail> {
+    Ok(worked::trace(trace::Room::reserve(rt.alloc())?, *counts).ok_or("no trace")?)
 }
 
 // A trace of it in which thread 2 reads before the write.

@@ -1,5 +1,5 @@
 // How replays end that do not end complete.
-use crate::build::{bump, bump_trace, op, program, read, sync, trace, write};
+use crate::build::{bump, bump_trace, program, trace};
 use crate::replays::{always, contents};
 use crate::steps::hold;
 use machine::Operation;
@@ -11,6 +11,7 @@ use schedule::{Seeded, Turn};
 use std::process::Abort;
 use std::test::Fail;
 use trace::Event;
+use worked::build::{op, read, sync, write};
 
 fn stuck(thread: u8, place: u16, object: Option<Object>, steps: u32) -> Fault {
     Fault::Stuck {

@@ -1,7 +1,5 @@
 // Which orders of steps a trace allows.
-use crate::build::{
-    bump, complete, early_trace, of_variable_0, op, program, read, spent, sync, trace, write,
-};
+use crate::build::{bump, complete, early_trace, of_variable_0, program, spent, trace};
 use crate::replays::always;
 use crate::steps::step;
 use machine::Operation;
@@ -10,6 +8,7 @@ use replay::Replay;
 use replay::faults::Fault;
 use schedule::Turn;
 use std::test::Fail;
+use worked::build::{op, read, sync, write};
 
 // Thread 1 is not on turn until both others have written; a thread that has to wait ends no replay.
 #[test]

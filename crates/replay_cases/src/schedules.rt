@@ -1,9 +1,10 @@
 // Runs that are recorded in one order, and replayed in others.
-use crate::build::{complete, op, program, recorded};
+use crate::build::{complete, program, recorded};
 use crate::replays::{always, contents};
 use program::Program;
 use std::process::Abort;
 use std::test::Fail;
+use worked::build::op;
 
 // Threads 1 and 2 add 1 to variable 0 under lock 0, and then V; thread 3 waits for a V and copies variable 0 to 1.
 fn shared(rt: &(impl Abort + AllocGlobal)) -> Result<Program, Fail> {

@@ -7,22 +7,7 @@ use trace::access::place_of;
 use trace::draft::Draft;
 use trace::faults::Fault;
 use trace::{Event, Room, Trace};
-
-fn read(thread: u8, version: u16) -> Event {
-    Event::Read { thread, version }
-}
-
-fn write(thread: u8, version: u16, reads: u16) -> Event {
-    Event::Write {
-        thread,
-        version,
-        reads,
-    }
-}
-
-fn sync(thread: u8, operation: Operation) -> Event {
-    Event::Sync { thread, operation }
-}
+use worked::build::{read, sync, write};
 
 fn draft(rt: &impl AllocGlobal, threads: u8) -> Result<Draft, Fail> {
     Ok(Draft::new(Room::reserve(rt.alloc())?, threads).ok_or("no draft")?)

@@ -1,16 +1,17 @@
 // The worked example: a program, the order of its run, and the trace of the run.
 #![tactic(auto)]
 
+pub mod build;
 #[cfg(test)]
 mod tests;
 
 ghost use Rattle.std.specs.Prelude.{◌≡◌, IsSomeAnd};
-ghost use Rattle.trace.specs.declared.Event.TheVariants.{Read};
 ghost use Rattle.trace.specs.Traces.{parts};
 ghost use Rattle.worked.specs.Worked.{worked};
 
+use build::{read, write};
 use trace::draft::Draft;
-use trace::{Event, Room, Trace};
+use trace::{Room, Trace};
 
 // Threads 1 and 2 read variable 0; thread 3 reads it, adds 1 and writes it back.
 pub const WORKED: [u8; 44] = [
@@ -30,24 +31,11 @@ pub fn trace(room: Room, counts: [u16; 3]) -> Option<Trace>
     let mut draft = Draft::new(room, 3)?;
     let _ = draft.add(0, read(3, 0));
     let _ = draft.add(0, read(1, 0));
-    let _ = draft.add(
-        0,
-        Event::Write {
-            thread: 3,
-            version: 0,
-            reads: 2,
-        },
-    );
+    let _ = draft.add(0, write(3, 0, 2));
     let _ = draft.add(0, read(2, 1));
     let [first, second, third] = counts;
     let _ = draft.set_count(1, first);
     let _ = draft.set_count(2, second);
     let _ = draft.set_count(3, third);
     draft.finish().ok()
-}
-
-fn read(thread: u8, version: u16) -> Event
-    ensures { result ≡ Read thread version }
-{
-    Event::Read { thread, version }
 }

@@ -1,4 +1,5 @@
 // The bytes are a program, its threads can step in the order, and its run makes the trace.
+use crate::build::{bytes, op};
 use crate::{ORDER, WORKED, trace};
 use machine::Machine;
 use program::Program;
@@ -21,5 +22,39 @@ fn trace_of_the_run(rt: HostRuntime) -> Result<(), Fail> {
     let trace = trace(Room::reserve(rt.alloc())?, [1, 1, 4]).ok_or("no trace")?;
     assert_eq!(rt; *trace.counts(), [1, 1, 4, 0, 0, 0, 0, 0]);
     assert_eq!(rt; trace.sequence_at(0).len(), 4);
+    Ok(())
+}
+
+#[test]
+fn bytes_of_the_program(rt: HostRuntime) -> Result<(), Fail> {
+    let read = [op(6, 0, 0)];
+    let bump = [op(6, 0, 0), op(1, 1, 1), op(2, 0, 1), op(7, 0, 0)];
+    let bytes = bytes(rt.alloc(), 0, 1, &[&read, &read, &bump])?;
+    assert_eq!(rt; bytes.as_slice(), WORKED.as_slice());
+    Ok(())
+}
+
+// Starts and limits stand in their places, and a number of two bytes with its low byte first.
+#[test]
+fn bytes_are_read(rt: HostRuntime) -> Result<(), Fail> {
+    let text = [op(1, 2, 515), op(11, 0, 7)];
+    let bytes = bytes(rt.alloc(), 3, 4, &[&[], &text])?;
+    let (program, taken) = Program::read(program::Room::reserve(rt.alloc())?, bytes.as_slice())?;
+    assert_eq!(rt; taken, bytes.len());
+    assert_eq!(rt; (*program.starts(), *program.limits()), ([3; 8], [4; 8]));
+    assert_eq!(rt; program.threads(), 2);
+    assert!(rt; program.text(1).is_empty());
+    assert_eq!(rt; program.text(2), text.as_slice());
+    Ok(())
+}
+
+// More than a byte can count is written as 255, which no program has.
+#[test]
+fn too_many_for_a_byte(rt: HostRuntime) -> Result<(), Fail> {
+    let text = [op(1, 0, 0); 256];
+    let long = bytes(rt.alloc(), 0, 1, &[&text])?;
+    assert_eq!(rt; long.len(), 18 + 4 * 256);
+    assert_eq!(rt; long[17], 255);
+    assert!(rt; Program::read(program::Room::reserve(rt.alloc())?, long.as_slice()).is_err());
     Ok(())
 }
