@@ -29,7 +29,7 @@ impl Used {
         ensures { result ≡ fresh trace.now }
     {
         Used {
-            // tried without a clause: the proof of 16 turns didn't close
+            // the closure has a clause, since without one the proof of 16 turns didn't close
             cursors: array::from_fn(
                 |place|
                     ensures { result ≡ firsts (row trace.entry.now place) }

@@ -71,8 +71,7 @@ impl Machine {
 
     // What the variables hold, from variable 0 on.
     pub fn variables(&self) -> &[Item; 16]
-        ensures same { result.now ≡ self.now.variables }
-        ensures items { (n : ℕ) → slice_index_or result.now n (plain 0) ≡ (view self.now).item (variable n) }
+        ensures { (n : ℕ) → slice_index_or result.now n (plain 0) ≡ (view self.now).item (variable n) }
     {
         &self.variables
     }

@@ -3,7 +3,7 @@ use Rattle.std.proofs.Common.{◌≡◌, ℕ, List, Ok, Err, Result, sym, refl, 
 use Rattle.program.specs.declared.faults.Fault.{Fault}
 use Rattle.program.specs.declared.Instruction.{Instruction}
 use Rattle.program.specs.Form.{Parts}
-use Rattle.program.specs.Answers.{then, over}
+use Rattle.program.specs.Chain.{then, over}
 
 -- a refusal is no success
 pub no_ok : {A B E : Type 0} {e : E} {y : A} → Err e ≡ Ok y → B

@@ -13,6 +13,3 @@ module _ {X : Type 0} (v : Vec (Vec X)) where
 
   pub row_at : (k : ℕ) (x : Vec X) → k < vec_len v → x ≡ get_or (vec_items v) k x → vec_items x ≡ get_or rows k []
   row_at k x lt e = ap vec_items e ∙ sym (get_or-map vec_items (vec_items v) k x [] (omega (arith, v.ok.0)))
-
-  pub row_past : (k : ℕ) → vec_len v ≤ k → get_or rows k [] ≡ []
-  row_past k h = get_or_past rows k [] (omega (arith, rows_length))

@@ -1,7 +1,7 @@
 pub mod Form
 pub mod Refusals
 pub mod Rooms
-pub mod Answers
+pub mod Chain
 pub mod Reading
 pub mod Encoding
 pub mod Programs

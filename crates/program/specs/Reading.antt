@@ -1,7 +1,7 @@
 -- What a program's bytes say, or the place of the first field that is wrong or missing.
 use Rattle.std.specs.Prelude.{ℕ, zero, suc, ◌+◌, ◌-◌, ◌*◌, max, cond, ◌&&◌, List, [], ◌∷◌, ◌++◌, length, take, drop, Ok, Err, Result, nat_le, nat_lt, slice_index, slice_index_or}
 use Rattle.program.specs.Form.{a_bound, b_bound, Parts}
-pub use Rattle.program.specs.Answers.{then, over}
+pub use Rattle.program.specs.Chain.{then, over}
 use Rattle.program.specs.declared.Instruction.{Instruction}
 use Rattle.program.specs.declared.faults.Fault.{Fault}
 use Rattle.program.specs.declared.faults.Fault.TheVariants.{Malformed}

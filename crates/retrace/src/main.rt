@@ -15,9 +15,14 @@ use trace_file::read::read;
 fn main(rt: HostRuntime) -> anyhow::Result<()> {
     let mut input = Vec::new(rt.alloc());
     rt.stdin().read_to_end(&mut input)?;
-    let room = Room::reserve(rt.alloc())?;
-    let trace_room = TraceRoom::reserve(rt.alloc())?;
-    match replayed(room, trace_room, input.as_slice()) {
+    let ended = match Program::read(Room::reserve(rt.alloc())?, input.as_slice()) {
+        Ok((program, taken)) => {
+            let file = input.as_slice().get(taken..).unwrap_or(&[]);
+            replayed(&program, TraceRoom::reserve(rt.alloc())?, file)
+        }
+        Err(fault) => Err(fault.into()),
+    };
+    match ended {
         Ok((Ending::Complete { steps }, machine)) => {
             println!(rt; "complete {steps}")?;
             return variables(&rt, &machine);
@@ -28,11 +33,10 @@ fn main(rt: HostRuntime) -> anyhow::Result<()> {
     Err(anyhow!("refused"))
 }
 
-// How the replay of a program's bytes and then a trace file's ends, and its machine then.
-fn replayed(room: Room, trace_room: TraceRoom, input: &[u8]) -> Result<(Ending, Machine), Refusal> {
-    let (program, taken) = Program::read(room, input)?;
-    let trace = read(trace_room, input.get(taken..).unwrap_or(&[]))?;
-    let mut replay = Replay::new(&program, &trace)?;
+// How the replay of a trace file ends, and its machine then.
+fn replayed(program: &Program, room: TraceRoom, file: &[u8]) -> Result<(Ending, Machine), Refusal> {
+    let trace = read(room, file)?;
+    let mut replay = Replay::new(program, &trace)?;
     let ending = replay.run(u32::MAX, &mut Turn::new(1))?;
     Ok((ending, *replay.machine()))
 }

@@ -5,23 +5,32 @@ use machine::Machine;
 use program::Program;
 use std::test::Fail;
 use trace::Room;
+use trace::access::place_of;
+use trace::draft::Draft;
+use trace::next::Access;
 
+// What each step does to a shared object, and the steps of each thread, are those of the trace.
 #[test]
-fn program_and_order(rt: HostRuntime) -> Result<(), Fail> {
+fn trace_of_the_run(rt: HostRuntime) -> Result<(), Fail> {
     let (program, taken) = Program::read(program::Room::reserve(rt.alloc())?, &WORKED)?;
     assert_eq!(rt; taken, WORKED.len());
     let mut machine = Machine::start(&program);
+    let mut draft = Draft::new(Room::reserve(rt.alloc())?, 3).ok_or("no draft")?;
     for thread in ORDER {
+        if let Some(access) = Access::next(&machine, &program, thread) {
+            assert!(rt; draft.add(place_of(access.object), access.event));
+        }
         assert!(rt; machine.step(&program, thread));
     }
-    Ok(())
-}
-
-#[test]
-fn trace_of_the_run(rt: HostRuntime) -> Result<(), Fail> {
-    let trace = trace(Room::reserve(rt.alloc())?, [1, 1, 4]).ok_or("no trace")?;
-    assert_eq!(rt; *trace.counts(), [1, 1, 4, 0, 0, 0, 0, 0]);
-    assert_eq!(rt; trace.sequence_at(0).len(), 4);
+    for thread in 1..=3 {
+        assert!(rt; draft.set_count(thread, machine.count(thread)));
+    }
+    let made = draft.finish()?;
+    let given = trace(Room::reserve(rt.alloc())?, [1, 1, 4]).ok_or("no trace")?;
+    assert_eq!(rt; *made.counts(), *given.counts());
+    for place in 0..32 {
+        assert!(rt; made.sequence_at(place) == given.sequence_at(place));
+    }
     Ok(())
 }
 

@@ -18,7 +18,7 @@ impl Follower<'_> {
     pub fn lowest_below(&self) -> Option<u8>
         ensures { result ≡ lowest_below (trace_of self.now) (seen self.now).machine }
     {
-        // tried as 1..=8: std says what a chain over a..b gives, and not over a..=b, so the proof didn't close
+        // 1..9, since the proof of 1..=8 didn't close: of chains over a..=b the library says too little
         (1..9).find(|thread| self.below(*thread))
     }
 
