@@ -1,4 +1,3 @@
-pub mod Fronts
 pub mod Kept
 pub mod Mapped
 pub mod Named
