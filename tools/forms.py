@@ -1,9 +1,10 @@
 #!/usr/bin/env python3
 """Lists the places in src/ where an older form of Rattle shows, by the points of docs/DESIGN-PASS.md.
 
-usage: python3 tools/forms.py [-v]      the count of each search, and with -v each place
+usage: python3 tools/forms.py [-v]      the count of each search, and with -v each place; at the top of the checkout
 
-It goes by text, so it shows where to look, and not what is wrong; a place that stays has its reason beside it.
+It goes by text and by some names that stood here once, so it shows where to look, and neither all of it nor what is
+wrong: only reading does.
 """
 import collections
 import glob
@@ -19,7 +20,7 @@ SEARCHES = [
     (1, "an enum like Option or Result", r"^    (Taken|Refused|None|Some|Ok|Err)\(\w+\),|enum (Outcome|Answer|Maybe)"),
     (1, "an Option or Result matched by hand, where a method or `?` does it",
      r"None => (None|false|true|return None|return false)\b|Err\(fault\) => (Err\(fault\)|return refuse|refuse)|Err\(_\) => (Err|unreachable)|_ => return None"),
-    (3, "an index counted by hand", r"\bwhile .*(<|\bis_empty\b)|for [a-z]\w* in [^{]*\.\."),
+    (3, "an index counted by hand", r"\bwhile .*(<|\bis_empty\b)|for [a-z]\w* in \(?\w+\.\."),
     (3, "a count, sum or search by hand", r"^\s*(let mut (n|left|count|size|end|before|at|from|due|next|k)( = |:))"),
     (3, "the same call once for each thread", r"\((follower\.)?(self\.)?\w*\(?.*\b8(, thread, is|, 0)?\),$"),
     (4, "equality by hand", r"fn (same|same_\w+)\("),
@@ -47,7 +48,7 @@ def by_line(pattern):
 
 def functions():
     """(crate, name, parameters, clauses) of each function."""
-    head = r"fn (\w+)(?:<[^>]*>)?\((.*?)\)(?: -> [^{;]*?)?\s*((?:(?:requires|ensures)\b[^\n]*\n\s*)*)\{"
+    head = r"fn (\w+)(?:<[^>]*>)?\((.*?)\)(?: -> [^{]*?)?\s*((?:(?:requires|ensures)\b[^\n]*\n\s*)*)\{"
     for path, text in source():
         for m in re.finditer(head, text, re.S):
             parameters = []

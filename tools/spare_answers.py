@@ -1,7 +1,8 @@
 #!/usr/bin/env python3
 """Finds answers of a crate's proofs that the check finds alone, and drops them.
 
-usage: python3 tools/spare_answers.py CRATE [WORD]      of a crate that proves; only files whose path has WORD
+usage: python3 tools/spare_answers.py CRATE [WORD]      of a crate that proves, at the top of the checkout, while nothing
+                                                       else works there; only files whose path has WORD
 
 It takes each answer out of its Answers.antt, checks that function alone, and puts the answer back where the check
 fails. A file with no answer left goes. It prints what it dropped; run `rt tidy` and `rt check` on the crate after it.
@@ -45,11 +46,15 @@ def main():
                 open(path, "w").write("\n\n".join(left) + "\n")
             else:
                 os.remove(path)
-            if proves(crate, path):
+            dropped = False
+            try:
+                dropped = proves(crate, path)
+            finally:
+                if not dropped:
+                    open(path, "w").write(before)
+            if dropped:
                 kept = left
                 print(f"dropped {m.group(1)}: {path}", flush=True)
-            else:
-                open(path, "w").write(before)
 
 
 main()

@@ -87,7 +87,7 @@ impl Used {
         }
     }
 
-    // Whether an event of the sequence at the place is unused.
+    // Whether an event of the sequence at the place, a number as the follower's search counts it, is unused.
     pub(crate) fn some_left(&self, trace: &Trace, place: usize) -> bool
         requires { place < 32 }
         ensures { result ≡ before_end self.now place (row trace.now place) }

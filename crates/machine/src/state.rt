@@ -48,14 +48,14 @@ impl Machine {
         self.slot(thread).copied()
     }
 
-    // The place at which the thread stands; 0 where there is no such thread.
+    // The place at which the thread stands; 0 where there is no such thread, since in the rules every number has a thread.
     pub fn place(&self, thread: u8) -> u16
         ensures { result ≡ ((view self.now).thread thread).place }
     {
         self.slot(thread).map_or(0, |t| t.place)
     }
 
-    // How many steps the thread has made; 0 where there is no such thread.
+    // How many steps the thread has made; 0 where there is no such thread, since in the rules every number has a thread.
     pub fn count(&self, thread: u8) -> u16
         ensures { result ≡ ((view self.now).thread thread).count }
     {

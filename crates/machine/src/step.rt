@@ -8,23 +8,18 @@ ghost use Rattle.machine.specs.View.{Sized, Standing, Stepped, code_of, each_of,
 
 use crate::{Item, Machine, Thread};
 use program::{Instruction, Program};
+use std::array;
 
 // the greatest 16-bit number
 const TOP: u16 = 65535;
 
-// The registers with the value in register a. All four are chosen and none is written, as measured: a write there makes
-// the copy of the thread that follows wait, which takes a third of a step's time.
+// The registers with the value in register a. All four are chosen and none is written: a write there makes the copy of
+// the thread that follows wait, which took a third of a step's time when it was measured.
 fn with_register(registers: [u32; 4], a: usize, value: u32) -> [u32; 4]
     requires { a < 4 }
     ensures { result ≡ slice_set registers a value }
 {
-    let [first, second, third, fourth] = registers;
-    [
-        chosen(a == 0, value, first),
-        chosen(a == 1, value, second),
-        chosen(a == 2, value, third),
-        chosen(a == 3, value, fourth),
-    ]
+    array::from_fn(|k| chosen(a == k, value, registers[k]))
 }
 
 // The value where the register is the one, otherwise what it held.

@@ -8,7 +8,8 @@ ghost use Rattle.program.specs.Rooms.{spare};
 use crate::faults::Fault;
 use crate::{Instruction, Room};
 
-// Bytes, and the place of the next field. Each method says that the bytes stay, since behind a `&mut` any field may change.
+// Bytes, and the place of the next field. Each method says that the bytes stay, since behind a `&mut` any
+// field may change; a word for that would be as long as the clause.
 #[derive(Drop)]
 pub(crate) struct Reader<'a> {
     pub bytes: &'a [u8],
@@ -97,7 +98,8 @@ impl Reader<'_> {
         Ok(starts.try_into().unwrap())
     }
 
-    // The semaphores' limits, each from 1 and not below its start.
+    // The semaphores' limits, each from 1 and not below its start. They are set by their index: an array's `try_map`
+    // tells which error comes, and not that it is the first.
     pub fn limits(&mut self, starts: &[u8; 8]) -> Result<[u8; 8], Fault>
         requires { self.old.at ≡ 9 }
         ensures value { result ≡ limits self.old.bytes.now starts.now 9 [] }

@@ -21,7 +21,8 @@ pub enum Object {
     Lock(u8),
 }
 
-// The number and the parts of a refusal.
+// The number and the parts of a refusal. Refusals are known by their numbers (docs/REFUSALS.md), which a rule of the
+// project gives; each layer's faults are an enum.
 #[derive(Clone, Copy, PartialEq, Eq, Debug)]
 pub struct Refusal {
     pub number: u8,

@@ -1,4 +1,6 @@
-// Programs and traces for the cases.
+// Programs and traces for the cases. What the cases of other crates build alike is three lines over `worked` and asserts,
+// which no library can: one for all would be no shorter. A replay, a thread, a program and a trace are what a case is
+// about, and go from call to call as they are.
 use machine::Machine;
 use program::{Instruction, Program};
 use refusal::Object;

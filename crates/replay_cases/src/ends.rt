@@ -186,10 +186,7 @@ fn other_threads(rt: HostRuntime) -> Result<(), Fail> {
     let program = bump(&rt)?;
     for counts in [[0; 8].as_slice(), &[0; 4], &[0; 2], &[0; 1]] {
         let trace = trace(&rt, &[], counts)?;
-        match Replay::new(&program, &trace) {
-            Ok(_) => assert!(rt; false, "a replay was made"),
-            Err(fault) => assert_eq!(rt; fault, Fault::Threads),
-        }
+        assert_eq!(rt; Replay::new(&program, &trace).err(), Some(Fault::Threads));
     }
     let trace = trace(&rt, &[], &[0; 3])?;
     assert!(rt; Replay::new(&program, &trace).is_ok());

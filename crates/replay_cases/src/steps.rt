@@ -1,4 +1,5 @@
-// Steps by permit. A permit cannot be let go: each function here performs it or hands it back.
+// Steps by permit. A permit cannot be let go: each function here performs it or hands it back. Each takes a replay and a
+// thread, which are what it is about.
 ghost use Rattle.std.specs.Prelude.{◌≡◌, true};
 ghost use Rattle.replay.specs.Calls.{holds};
 ghost use Rattle.replay.specs.Replays.{shown};

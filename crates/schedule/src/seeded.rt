@@ -46,7 +46,7 @@ impl Scheduler for Seeded {
     ghost outside = { Prim.search rules };
 
     fn name(&self, set: ThreadSet) -> u8 {
-        // With no thread to choose from, it names 0.
+        // 0 where there is none to choose from, by the trait's law `empty`.
         self.state
             .checked_rem(set.len())
             .and_then(|n| set.nth(n))

@@ -63,7 +63,8 @@ impl ThreadSet {
             .nth(n as usize)
     }
 
-    // The lowest thread of the set that is above the number. A `for`: a chain with `find` took almost twice its time.
+    // The lowest thread of the set that is above the number. A `for`: each turn asks
+    // it, and a chain with `find` took 1.8 times as long.
     pub fn first_above(&self, number: u8) -> Option<u8>
         ensures { result ≡ found_above number (threads self.now) }
     {

@@ -48,7 +48,7 @@ impl Scheduler for Turn {
         if self.streak < self.quantum && set.has(self.last) {
             return self.last;
         }
-        // With no thread to choose from, it names 0.
+        // 0 where there is none to choose from, by the trait's law `empty`.
         set.first_above(self.last)
             .or_else(|| set.first_above(0))
             .unwrap_or(0)

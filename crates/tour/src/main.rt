@@ -58,6 +58,7 @@ fn run(rt: &HostRuntime, program: &Program) -> anyhow::Result<()> {
             _ => println!(rt; "  Thread {thread} is not able.")?,
         }
     }
+    // as in the tour of replays: what both print would be no shorter as a public function that takes the handle
     println!(rt; "The variables that are not 0:")?;
     for (v, item) in machine.variables().iter().enumerate() {
         if item.value != 0 {

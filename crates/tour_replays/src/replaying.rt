@@ -1,4 +1,5 @@
-// The tour's trace replayed, under schedulers and by permits.
+// The tour's trace replayed, under schedulers and by permits. The program and its trace, which all of it is about, go from
+// call to call as they are.
 use anyhow::anyhow;
 use machine::Machine;
 use program::{Program, Room};
@@ -82,7 +83,7 @@ fn order<S: Scheduler>(
     Ok(())
 }
 
-// The first thread whose count differs, or 0.
+// The first thread whose count differs; 0, as it is printed, where there is none.
 fn stepped(before: &Machine, after: &Machine) -> u8 {
     (1..=8)
         .find(|thread| before.count(*thread) != after.count(*thread))
@@ -126,6 +127,7 @@ fn compare(rt: &HostRuntime, program: &Program, machine: &Machine) -> anyhow::Re
     Ok(())
 }
 
+// As in the tour: what both print would be no shorter as a public function that takes the handle.
 fn variables(rt: &HostRuntime, machine: &Machine) -> anyhow::Result<()> {
     println!(rt; "The variables that are not 0:")?;
     for (v, item) in machine.variables().iter().enumerate() {
@@ -163,7 +165,8 @@ fn permits<'a>(rt: &HostRuntime, program: &'a Program, trace: &'a Trace) -> anyh
     compare(rt, program, replay.machine())
 }
 
-// Asks for a permit and performs it. The permit is the one that is out, so that it is proved to be taken.
+// Asks for a permit and performs it. The permit is the one that is out, so that it is proved to be taken. Two lines, as in
+// the replays' cases, which are tests and lend nothing.
 fn perform(replay: &mut Replay, thread: u8) -> Result<u16, Fault> {
     let permit = replay.request(thread)?;
     Ok(replay.perform(permit).unwrap())

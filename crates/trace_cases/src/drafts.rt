@@ -9,6 +9,7 @@ use trace::faults::Fault;
 use trace::{Event, Room, Trace};
 use worked::build::{read, sync, write};
 
+// One line, as in the replays' cases: a test's own, since it ends in a test's error.
 fn draft(rt: &impl AllocGlobal, threads: u8) -> Result<Draft, Fail> {
     Ok(Draft::new(Room::reserve(rt.alloc())?, threads).ok_or("no draft")?)
 }
@@ -91,21 +92,22 @@ fn the_first_fault(rt: HostRuntime) -> Result<(), Fail> {
 
 #[test]
 fn numbers_of_events(rt: HostRuntime) -> Result<(), Fail> {
-    for (n, fits) in [
-        (0, true),
-        (1023, true),
-        (1024, true),
-        (1025, false),
-        (2000, false),
+    for (n, outcome) in [
+        (0, Ok(0)),
+        (1023, Ok(1023)),
+        (1024, Ok(1024)),
+        (1025, Err(Fault::TooMany)),
+        (2000, Err(Fault::TooMany)),
     ] {
         let mut draft = draft(&rt, 1)?;
         for _ in 0..n {
             assert!(rt; draft.add(31, sync(1, Operation::Lock)));
         }
-        match draft.finish() {
-            Ok(trace) => assert!(rt; fits && trace.sequence(Object::Lock(7)).len() == n),
-            Err(fault) => assert!(rt; !fits && fault == Fault::TooMany),
-        }
+        let made = draft.finish();
+        assert_eq!(rt;
+            made.map(|trace| trace.sequence(Object::Lock(7)).len()),
+            outcome
+        );
     }
     Ok(())
 }
@@ -172,6 +174,7 @@ fn numbers_of_threads(rt: HostRuntime) -> Result<(), Fail> {
     Ok(())
 }
 
+// Nine boundary values, each written out.
 #[test]
 fn places_of_objects(rt: HostRuntime) -> Result<(), Fail> {
     assert_eq!(rt;

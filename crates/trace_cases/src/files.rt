@@ -20,7 +20,7 @@ fn at(number: u8, place: usize) -> Outcome {
     Some((number, Some(place), None))
 }
 
-// The worked trace: variable 0 was read by 3 and 1, written by 3, and read by 2.
+// The worked trace: variable 0 was read by 3 and 1, written by 3, and read by 2. One line, with a test's own error.
 fn worked(rt: &impl AllocGlobal) -> Result<Trace, Fail> {
     Ok(worked::trace(Room::reserve(rt.alloc())?, [1, 1, 4]).ok_or("no trace")?)
 }

@@ -24,7 +24,8 @@ pub const WORKED: [u8; 44] = [
 // The order in which the threads step in the run.
 pub const ORDER: [u8; 6] = [3, 1, 3, 3, 3, 2];
 
-// The trace of the run, in which threads 1, 2 and 3 made so many steps.
+// The trace of the run, in which threads 1, 2 and 3 made so many steps. One call after another: a loop over seven
+// different calls would be no shorter.
 pub fn trace(room: Room, counts: [u16; 3]) -> Option<Trace>
     ensures { IsSomeAnd result (λ t. parts t ≡ worked counts) }
 {

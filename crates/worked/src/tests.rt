@@ -9,7 +9,8 @@ use trace::access::place_of;
 use trace::draft::Draft;
 use trace::next::Access;
 
-// What each step does to a shared object, and the steps of each thread, are those of the trace.
+// What each step does to a shared object, and the steps of each thread, are those of the trace. The replays' cases record
+// any program so; they stand above and lend nothing.
 #[test]
 fn trace_of_the_run(rt: HostRuntime) -> Result<(), Fail> {
     let (program, taken) = Program::read(program::Room::reserve(rt.alloc())?, &WORKED)?;
