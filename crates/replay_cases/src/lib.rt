@@ -8,6 +8,8 @@ mod build;
 #[cfg(test)]
 mod ends;
 #[cfg(test)]
+mod examples;
+#[cfg(test)]
 mod orders;
 #[cfg(test)]
 mod permits;
@@ -17,5 +19,3 @@ mod replays;
 mod schedules;
 #[cfg(test)]
 mod steps;
-#[cfg(test)]
-mod worked;
