@@ -5,7 +5,7 @@ use std::process::Abort;
 use std::test::Fail;
 use worked::build::{bytes, op};
 
-// A program of these threads, every semaphore with this start and limit. The replays' cases have the same three lines:
+// A program of these threads, every semaphore with this start and limit. The replays' cases have the same four lines:
 // they assert, which no library can.
 fn program(
     rt: &(impl Abort + AllocGlobal),
@@ -45,7 +45,7 @@ fn variable(machine: &Machine, v: u8) -> Result<(u32, u16, u16), Fail> {
 
 #[test]
 fn the_worked_run(rt: HostRuntime) -> Result<(), Fail> {
-    // the worked program by its instructions, which are this test's own input
+    // the worked program by its instructions: read from its bytes it would not show what they stand for
     let read = [op(6, 0, 0)];
     let bump = [op(6, 0, 0), op(1, 1, 1), op(2, 0, 1), op(7, 0, 0)];
     let p = program(&rt, 0, 1, &[&read, &read, &bump])?;

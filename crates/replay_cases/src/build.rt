@@ -1,6 +1,5 @@
-// Programs and traces for the cases. What the cases of other crates build alike is three lines over `worked` and asserts,
-// which no library can: one for all would be no shorter. A replay, a thread, a program and a trace are what a case is
-// about, and go from call to call as they are.
+// Programs and traces for the cases. A replay, a thread, a program and a trace are what a case is about, and go from call
+// to call as they are: a struct of two of them would be made and taken apart at each call.
 use machine::Machine;
 use program::{Instruction, Program};
 use refusal::Object;
@@ -24,7 +23,8 @@ pub fn spent(steps: u32) -> Result<Ending, Fault> {
     Ok(Ending::Spent { steps })
 }
 
-// A program of these threads, every semaphore with this start and limit.
+// A program of these threads, every semaphore with this start and limit, which are what a case varies. The machine's cases
+// have the same four lines: they assert, which no library can.
 pub fn program(
     rt: &(impl Abort + AllocGlobal),
     start: u8,
@@ -37,6 +37,7 @@ pub fn program(
     Ok(program)
 }
 
+// One line, as in the traces' cases: it ends in a test's error, which no library has.
 fn draft(rt: &(impl Abort + AllocGlobal), threads: u8) -> Result<Draft, Fail> {
     Ok(Draft::new(trace::Room::reserve(rt.alloc())?, threads).ok_or("no draft")?)
 }
@@ -98,7 +99,7 @@ pub fn bump(rt: &(impl Abort + AllocGlobal)) -> Result<Program, Fail> {
     Ok(program)
 }
 
-// The trace of its run 3, 1, 3, 3, 3, 2, with counts of one's own.
+// The trace of its run 3, 1, 3, 3, 3, 2, with counts of one's own. One line, with a test's own error.
 pub fn bump_trace(rt: &impl AllocGlobal, counts: &[u16; 3]) -> Result<Trace, Fail> {
     Ok(worked::trace(trace::Room::reserve(rt.alloc())?, *counts).ok_or("no trace")?)
 }

@@ -17,6 +17,7 @@ pub struct Held {
 
 pub fn contents(machine: &Machine) -> Held {
     let values = machine.variables().map(|item| item.value);
+    // a machine has all eight threads, so that the 0 is never taken
     let registers = [1, 2, 3, 4, 5, 6, 7, 8].map(|thread| {
         machine
             .thread(thread)

@@ -62,12 +62,14 @@ pub fn misplace(own: &mut Replay<'_>, other: &mut Replay<'_>, thread: u8) -> Res
         Ok(count) => return Ok(Fate::Performed(count)),
         Err(returned) => returned,
     };
-    let Returned {
-        permit,
-        fault: handed,
-    } = match other.hand_back(permit) {
-        Ok(()) => return Ok(Fate::Taken),
-        Err(returned) => returned,
+    let Err(
+        Returned {
+            permit,
+            fault: handed,
+        },
+    ) = other.hand_back(permit)
+    else {
+        return Ok(Fate::Taken);
     };
     give_back(own, permit);
     Ok(Fate::Refused(performed, handed))

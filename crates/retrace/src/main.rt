@@ -15,7 +15,8 @@ use trace_file::read::read;
 fn main(rt: HostRuntime) -> anyhow::Result<()> {
     let mut input = Vec::new(rt.alloc());
     rt.stdin().read_to_end(&mut input)?;
-    // a match and no `?`, since room for the trace is reserved only once the program is read
+    // a match and no `?`: a refusal is printed and an error of memory is not, so that with `?` both rooms would have to be
+    // reserved before the program is read
     let ended = match Program::read(Room::reserve(rt.alloc())?, input.as_slice()) {
         Ok((program, taken)) => {
             let file = input.as_slice().get(taken..).unwrap_or(&[]);
@@ -42,7 +43,8 @@ fn replayed(program: &Program, room: TraceRoom, file: &[u8]) -> Result<(Ending, 
     Ok((ending, *replay.machine()))
 }
 
-// The variables that are not 0, with no heading and no indent, as the tours print them.
+// The variables that are not 0. The tours print them with a heading and an indent: one function for all would be no
+// plainer.
 fn variables(rt: &HostRuntime, machine: &Machine) -> anyhow::Result<()> {
     for (v, item) in machine.variables().iter().enumerate() {
         if item.value != 0 {

@@ -58,7 +58,7 @@ fn run(rt: &HostRuntime, program: &Program) -> anyhow::Result<()> {
             _ => println!(rt; "  Thread {thread} is not able.")?,
         }
     }
-    // as in the tour of replays: what both print would be no shorter as a public function that takes the handle
+    // as in the tour of replays: a function for both would be a library's, with a contract and an edit, for these lines
     println!(rt; "The variables that are not 0:")?;
     for (v, item) in machine.variables().iter().enumerate() {
         if item.value != 0 {
@@ -68,7 +68,8 @@ fn run(rt: &HostRuntime, program: &Program) -> anyhow::Result<()> {
     Ok(())
 }
 
-// What a step changed of its thread: a register, or the place that it jumped to. An instruction's code is a number.
+// What a step changed of its thread: a register, or the place that it jumped to. An instruction's code is a number
+// (see `Instruction`).
 fn change(
     rt: &HostRuntime,
     machine: &Machine,

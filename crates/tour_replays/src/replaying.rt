@@ -83,7 +83,8 @@ fn order<S: Scheduler>(
     Ok(())
 }
 
-// The first thread whose count differs; 0, as it is printed, where there is none.
+// The first thread whose count differs; 0 where there is none: it is only printed, as a number, so that an Option would be
+// no plainer.
 fn stepped(before: &Machine, after: &Machine) -> u8 {
     (1..=8)
         .find(|thread| before.count(*thread) != after.count(*thread))
@@ -127,7 +128,7 @@ fn compare(rt: &HostRuntime, program: &Program, machine: &Machine) -> anyhow::Re
     Ok(())
 }
 
-// As in the tour: what both print would be no shorter as a public function that takes the handle.
+// As in the tour: a function for both would be a library's, with a contract and an edit, for these lines.
 fn variables(rt: &HostRuntime, machine: &Machine) -> anyhow::Result<()> {
     println!(rt; "The variables that are not 0:")?;
     for (v, item) in machine.variables().iter().enumerate() {

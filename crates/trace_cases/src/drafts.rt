@@ -174,7 +174,7 @@ fn numbers_of_threads(rt: HostRuntime) -> Result<(), Fail> {
     Ok(())
 }
 
-// Nine boundary values, each written out.
+// Nine boundary values, each written out: a loop over a table of nine pairs would be no shorter.
 #[test]
 fn places_of_objects(rt: HostRuntime) -> Result<(), Fail> {
     assert_eq!(rt;
