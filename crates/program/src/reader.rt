@@ -12,8 +12,8 @@ use crate::{Instruction, Room};
 // field may change; a word for that would be as long as the clause.
 #[derive(Drop)]
 pub(crate) struct Reader<'a> {
-    pub bytes: &'a [u8],
-    pub at: usize,
+    pub(crate) bytes: &'a [u8],
+    pub(crate) at: usize,
 }
 
 // What an instruction's a is below, by ranges of its code: it is a register, or 0 where the code has no use for it.
@@ -42,7 +42,7 @@ fn b_bound(n: u8, code: u8) -> u32
 
 impl Reader<'_> {
     // The next byte, from low to high.
-    pub fn byte(&mut self, low: u8, high: u8) -> Result<u8, Fault>
+    pub(crate) fn byte(&mut self, low: u8, high: u8) -> Result<u8, Fault>
         ensures value { result ≡ byte self.old.bytes.now self.old.at low high }
         ensures after { IfOk result (λ _. self.new.at ≡ self.old.at + 1) }
         ensures bytes { self.new.bytes ≡ self.old.bytes }
@@ -57,7 +57,7 @@ impl Reader<'_> {
     }
 
     // The number of the next two bytes, low byte first, below a bound.
-    pub fn half(&mut self, bound: u32) -> Result<u16, Fault>
+    pub(crate) fn half(&mut self, bound: u32) -> Result<u16, Fault>
         ensures value { result ≡ half self.old.bytes.now self.old.at bound }
         ensures after { IfOk result (λ _. self.new.at ≡ self.old.at + 2) }
         ensures bytes { self.new.bytes ≡ self.old.bytes }
@@ -73,7 +73,7 @@ impl Reader<'_> {
     }
 
     // The next instruction, in a thread of n.
-    pub fn instruction(&mut self, n: u8) -> Result<Instruction, Fault>
+    pub(crate) fn instruction(&mut self, n: u8) -> Result<Instruction, Fault>
         ensures value { over (λ i. (i, self.new.at)) result ≡ one self.old.bytes.now n self.old.at }
         ensures bytes { self.new.bytes ≡ self.old.bytes }
     {
@@ -84,7 +84,7 @@ impl Reader<'_> {
     }
 
     // The semaphores' starts, which may be any bytes.
-    pub fn starts(&mut self) -> Result<[u8; 8], Fault>
+    pub(crate) fn starts(&mut self) -> Result<[u8; 8], Fault>
         requires { self.old.at ≡ 1 }
         ensures value { result ≡ starts self.old.bytes.now }
         ensures after { IfOk result (λ _. self.new.at ≡ 9) }
@@ -100,7 +100,7 @@ impl Reader<'_> {
 
     // The semaphores' limits, each from 1 and not below its start. They are set by their index: an array's `try_map`
     // tells which error comes, and not that it is the first.
-    pub fn limits(&mut self, starts: &[u8; 8]) -> Result<[u8; 8], Fault>
+    pub(crate) fn limits(&mut self, starts: &[u8; 8]) -> Result<[u8; 8], Fault>
         requires { self.old.at ≡ 9 }
         ensures value { result ≡ limits self.old.bytes.now starts.now 9 [] }
         ensures after { IfOk result (λ _. self.new.at ≡ 17) }
@@ -114,7 +114,7 @@ impl Reader<'_> {
     }
 
     // The instructions of one thread, into a vector that was reserved for them.
-    pub fn text(&mut self, mut text: Vec<Instruction>) -> Result<Vec<Instruction>, Fault>
+    pub(crate) fn text(&mut self, mut text: Vec<Instruction>) -> Result<Vec<Instruction>, Fault>
         requires { spare text ≡ true }
         ensures value { over (λ v. (vec_items v, self.new.at)) result ≡ reading.text self.old.bytes.now self.old.at }
         ensures bytes { self.new.bytes ≡ self.old.bytes }
@@ -128,7 +128,7 @@ impl Reader<'_> {
     }
 
     // The instructions of all threads, into the reserved room.
-    pub fn texts(&mut self, room: Room, count: u8) -> Result<Vec<Vec<Instruction>>, Fault>
+    pub(crate) fn texts(&mut self, room: Room, count: u8) -> Result<Vec<Vec<Instruction>>, Fault>
         requires { count ≤ 8 }
         ensures value { over (λ v. (map vec_items (vec_items v), self.new.at)) result ≡ repeated (reading.text self.old.bytes.now) count self.old.at [] }
         ensures bytes { self.new.bytes ≡ self.old.bytes }
