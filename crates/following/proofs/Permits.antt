@@ -16,9 +16,9 @@ use Rattle.following.proofs.Due.{due_is}
 use Rattle.following.proofs.Events.{no_clash}
 
 -- the event that is due is compared with the one that the step would record
-pub compared : (eq : Event → Event → Bool) (e : Event) → ((d : Event) → eq d e ≡ same_event d e) → (d : Answer Event) → option_eq eq d (Some e) ≡ meets (e ∷ []) (lifted d)
-compared eq e same None = refl
-compared eq e same (Some d) = same d
+pub compared : (eq : Event → Event → Bool) (e : Event) → ((d : Event) → eq d e ≡ same_event d e) → (d own : Answer Event) → own ≡ Some e → option_eq eq d own ≡ meets (e ∷ []) (lifted d)
+compared eq e same None own is = ap (option_eq eq None) is
+compared eq e same (Some d) own is = ap (option_eq eq (Some d)) is ∙ same d
 
 module _ (p : Code) (t : Trace) (s : Stage) (i : ℕ) where
   abbrev at_turn : Bool
