@@ -64,7 +64,7 @@ impl ThreadSet {
     }
 
     // Thread number n of the set, from 0, in rising order. A `for`: each turn under a seed asks it, and a chain with
-    // `filter` and `nth` took three times as long.
+    // `filter` and `nth` took two to four times as long.
     pub fn nth(&self, n: u32) -> Option<u8>
         ensures { result ≡ slice_get (threads self.now) n }
     {
