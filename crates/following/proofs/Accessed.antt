@@ -1,6 +1,8 @@
 -- What the access of a thread's next step says of its instruction.
-use Rattle.std.proofs.Common.{◌≡◌, ℕ, true, ◌≢◌, List, [], ◌∷◌, map, sym, refl, ap, ◌∙◌, subst, arith}
+use Rattle.std.proofs.Common.{◌≡◌, ℕ, true, ◌≢◌, List, [], ◌∷◌, map, Some, None, sym, refl, ap, ◌∙◌, subst, arith}
 use mathlib.Core.Option.{Option, none, some}
+use Rattle.refusal.specs.declared.Object.{Object as Named}
+use Rattle.refusal.specs.declared.Object.TheVariants.{Variable, Semaphore, Lock}
 use Rattle.machine.specs.declared.Item.{Item}
 use Rattle.machine.specs.declared.Operation.TheVariants.{P, V, Unlock}
 use Rattle.machine.specs.declared.Operation.TheVariants as op
@@ -8,8 +10,11 @@ use Rattle.machine.specs.Machine.{Code, State, Instr, Object, nothing, object, h
 use Rattle.machine.specs.Proper.{InRange, Proper}
 use Rattle.machine.proofs.Programs.{thread_of}
 use Rattle.trace.specs.declared.Event.{Event}
+use Rattle.trace.specs.declared.next.Access.{Access}
+use Rattle.trace.specs.Accesses.{entry}
 use Rattle.trace.specs.History.{Logged, event, logged_at}
-use Rattle.trace.specs.Traces.{position}
+use Rattle.trace.specs.Traces.{named, position}
+use Rattle.following.specs.Ends.{name_of, at_event}
 use Rattle.following.specs.Following.{Progress, meets, due, turn_at}
 use Rattle.following.specs.View.{Inside}
 use Rattle.following.proofs.Events.{no_clash}
@@ -72,3 +77,27 @@ local_turn p r i a h = go (here p r.machine i) a h
     go : (u : Option Instr) → able_at p r.machine i u ≡ true → [] ≡ logged_at u i r.machine → turn_at u i r ≡ true
     go none a h = no_clash (cc)
     go (some c) a h = at c (event i c (r.machine.item (object c))) h
+
+-- the object of an access is that of the instruction
+name_back : (o : Named) → name_of (named o) ≡ Some o
+name_back (Variable v) = refl
+name_back (Semaphore n) = refl
+name_back (Lock n) = refl
+
+pub named_access : (p : Code) (m : State) (i : ℕ) (a : Access) → entry a ∷ [] ≡ logged_at (here p m i) i m → Some a.object ≡ at_event (here p m i)
+named_access p m i a h =
+    let w = accesses p m i (named a.object) a.event h in
+    sym (name_back a.object) ∙ ap name_of w.on ∙ sym (ap at_event w.is)
+
+pub no_access : (p : Code) (m : State) (i : ℕ) → [] ≡ logged_at (here p m i) i m → None ≡ at_event (here p m i)
+no_access p m i h = go (here p m i) h
+  where
+    at : (c : Instr) → [] ≡ logged_at (some c) i m → None ≡ name_of (object c)
+    at (Instr.local c) h = refl
+    at (Instr.read a v) h = no_clash (cc)
+    at (Instr.write a v) h = no_clash (cc)
+    at (Instr.synchronise o n) h = no_clash (cc)
+
+    go : (u : Option Instr) → [] ≡ logged_at u i m → None ≡ at_event u
+    go none h = refl
+    go (some c) h = at c h

@@ -105,6 +105,11 @@ settles i k q =
     let d : drop (s - k) (drop k q) ≡ drop ((s - k) + k) q = drop-drop (s - k) k q ∙ ap (λ (m : ℕ). drop m q) (let y : k + (s - k) ≡ (s - k) + k = omega arith in y) in
     subst (λ (m : ℕ). seek i m (drop m q) ≡ m) (sym z) (ap (seek i ((s - k) + k)) (sym d) ∙ stays i k (drop k q) (s - k) z)
 
+-- and it is in range
+pub seek_within : (i k : ℕ) (q : List Event) → seek i k q ≤ k + length q
+seek_within i k [] = omega arith
+seek_within i k (e ∷ q) = let again = seek_within i (suc k) q in grind (arith, nat_tests)
+
 -- at a settled cursor stands thread i's first unused event
 settled_head : (i k : ℕ) (q : List Event) → seek i k q ≡ k → first_of i q ≡ first q
 settled_head i k [] h = refl

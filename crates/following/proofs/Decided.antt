@@ -57,12 +57,18 @@ says_same (Sync i o) (Sync j u) =
     (λ h. cc)
     (λ h. let e : o ≡ u = cc in ap operation_number e)
 
+pub same_event_is : (d e : Event) → same_event d e ≡ true → d ≡ e
+same_event_is d e h = said (says_same d e) h
+
+pub same_event_self : (e : Event) → same_event e e ≡ true
+same_event_self e = agreed (same_event e e) (says_same e e) refl
+
 -- the event that is due is the one that would be recorded
 says_due : (o : Option Event) (e : Event) → Says (meets (e ∷ []) o) (o ≡ some e)
 says_due none e = λ h. no_clash (cc)
 says_due (some d) e = says_as (same_event d e) (says_same d e) (ap some) (λ h. cc)
 
-says_turn : (i : ℕ) (c : Instr) (x : Item) (q : List Event) → Says (turn i c x q) (Turn i c x q)
+pub says_turn : (i : ℕ) (c : Instr) (x : Item) (q : List Event) → Says (turn i c x q) (Turn i c x q)
 says_turn i (Instr.local c) x q = tt
 says_turn i (Instr.read a v) x q = says_due (first_of i q) (Read i x.version)
 says_turn i (Instr.write a v) x q = says_due (first_of i q) (Write i x.version x.made)
@@ -81,7 +87,7 @@ module _ (p : Code) (t : History) (r : Progress) (i : ℕ) where
   says_turn_at none = λ h. let e = h.1 in no_clash (cc)
   says_turn_at (some c) = says_as (turn_at (some c) i r) (says_turn i c (r.machine.item (object c)) (r.left (object c))) (λ h. (c, refl, h)) (λ h. one_turn h.0 c (sym h.1) h.2)
 
-  says_permitted : Says (permitted p t r i) (Permitted p t r i)
+  pub says_permitted : Says (permitted p t r i) (Permitted p t r i)
   unfolding permitted
   says_permitted =
       let m = r.machine in

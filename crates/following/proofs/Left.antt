@@ -95,6 +95,9 @@ some_drop (suc n) [] = grind (arith, nat_tests)
 some_drop zero (e ∷ q) = grind (arith, nat_tests)
 some_drop (suc n) (e ∷ q) = let again = some_drop n q in grind (arith, nat_tests)
 
+pub left_by_front : (u : Used) (k : ℕ) (q : List Event) → 16 ≤ k → ltb (get_or u.fronts (k - 16) 0) (length q) ≡ some_event (rest u k q)
+left_by_front u k q ge = some_drop (get_or u.fronts (k - 16) 0) q ∙ ap some_event (sym (cond-false (ltb k 16) (unused (cursor (cursors_at u k)) 0 q) (drop (get_or u.fronts (k - 16) 0) q) (le-ltb k 16 ge)))
+
 pub some_before : (t : Trace) (u : Used) → Sized u → SettledIn t u → (k : ℕ) → before_end u k (row t k) ≡ some_event (rest u k (row t k))
 some_before t u size settled k = cond_both (ltb k 16) _ _ (λ b. b ≡ some_event (rest u k (row t k)))
     (λ lt. by_cursors t u size settled k (ltb-true k 16 lt) ∙ ap some_event (sym (cond-true (ltb k 16) (unused (cursor (cursors_at u k)) 0 (row t k)) (drop (get_or u.fronts (k - 16) 0) (row t k)) lt)))

@@ -1,9 +1,12 @@
 -- What the tests that the code makes say of a thread's being permitted.
-use Rattle.std.proofs.Common.{◌≡◌, ℕ, Bool, true, false, ◌&&◌, [], ◌∷◌, Some, None, Option as Answer, drop, sym, refl, ap, ◌∙◌}
+use Rattle.std.proofs.Common.{◌≡◌, ℕ, ◌≤◌, Bool, true, false, ◌&&◌, ltb, [], ◌∷◌, Some, None, Option as Answer, drop, sym, refl, ap, ◌∙◌, arith}
 use mathlib.Core.Option.{Option, none, some}
+use Rattle.std.proofs.lemmas.Bool.Decides.{nat_tests}
 use Rattle.std.specs.Option.{option_eq}
+use Rattle.program.specs.declared.Instruction.{Instruction}
 use Rattle.machine.specs.Machine.{Code, Instr, Object, object, here, able, able_at}
 use Rattle.machine.specs.Proper.{Proper}
+use Rattle.machine.specs.View.{meaning}
 use Rattle.trace.specs.declared.Event.{Event}
 use Rattle.trace.specs.declared.Trace.{Trace}
 use Rattle.trace.specs.History.{logged_at}
@@ -15,10 +18,14 @@ use Rattle.following.proofs.Accessed.{Accesses, with_object, inside, local_turn}
 use Rattle.following.proofs.Due.{due_is}
 use Rattle.following.proofs.Events.{no_clash}
 
+-- a code below those of events means a local instruction
+pub code_local : (i : Instruction) → 1 ≤ i.code → ltb i.code 6 ≡ local_at (some (meaning i))
+code_local i h = grind (arith, nat_tests)
+
 -- the event that is due is compared with the one that the step would record
-pub compared : (eq : Event → Event → Bool) (e : Event) → ((d : Event) → eq d e ≡ same_event d e) → (d : Answer Event) → option_eq eq d (Some e) ≡ meets (e ∷ []) (lifted d)
-compared eq e same None = refl
-compared eq e same (Some d) = same d
+pub compared : (eq : Event → Event → Bool) (e : Event) → ((d : Event) → eq d e ≡ same_event d e) → (d own : Answer Event) → own ≡ Some e → option_eq eq d own ≡ meets (e ∷ []) (lifted d)
+compared eq e same None own is = ap (option_eq eq None) is
+compared eq e same (Some d) own is = ap (option_eq eq (Some d)) is ∙ same d
 
 module _ (p : Code) (t : Trace) (s : Stage) (i : ℕ) where
   abbrev at_turn : Bool

@@ -355,3 +355,7 @@ replays p t s size = record {
   run_is = of_run p t s;
   replayed = again p t s;
 }
+
+-- a trace agrees with itself
+pub agree_self : (t : History) → Agree t t
+agree_self t = record { threads_same = refl; counts_same = λ i. refl; seqs = λ o. agree_same o (t.seq o) }

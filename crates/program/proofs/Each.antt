@@ -1,5 +1,6 @@
 -- A test of each element.
-use Rattle.std.proofs.Common.{◌≡◌, ℕ, zero, suc, ◌≤◌, Bool, true, ◌&&◌, List, [], ◌∷◌, ◌++◌, length, get_or, ap, ◌∙◌, arith}
+use Rattle.std.proofs.Common.{◌≡◌, ℕ, zero, suc, ◌≤◌, Bool, true, ◌&&◌, List, [], ◌∷◌, ◌++◌, length, get_or, Some, Option, sym, ap, ◌∙◌, arith}
+use Rattle.std.specs.Option.{option_to_list}
 use Rattle.std.proofs.lemmas.Bool.{and_parts, and_from}
 use Rattle.std.proofs.lemmas.Bool.Decides.{nat_tests}
 use Rattle.program.specs.Form.{each}
@@ -11,6 +12,9 @@ module _ {A : Type 0} (f : A → Bool) where
 
   pub each_push : (xs : List A) (x : A) {more : List A} → more ≡ xs ++ x ∷ [] → each f xs ≡ true → f x ≡ true → each f more ≡ true
   each_push xs x e h k = ap (each f) e ∙ each_last xs x ∙ and_from (each f xs) (f x) h k
+
+  pub each_pop : (xs : List A) (o : Option A) (x : A) {more : List A} → o ≡ Some x → more ≡ xs ++ option_to_list o → each f more ≡ true → (each f xs ≡ true) × (f x ≡ true)
+  each_pop xs o x p e h = and_parts (each f xs) (f x) (sym (ap (each f) (e ∙ ap (λ o. xs ++ option_to_list o) p) ∙ each_last xs x) ∙ h)
 
   -- one of those that all pass, or past them what passes there
   pub each_at : (xs : List A) (d : A) (k : ℕ) → each f xs ≡ true → (length xs ≤ k → f d ≡ true) → f (get_or xs k d) ≡ true

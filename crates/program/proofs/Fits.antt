@@ -46,3 +46,6 @@ fetched_at p t place is d e lt =
 -- past a thread's text, and past thread 8, there is none
 pub fetched_past : (p : Program) (t place : ℕ) → length (text_of p t) ≤ place → None ≡ fetched p t place
 fetched_past p t place h = sym (slice_get_past (text_of p t) place h)
+
+pub fetched_none : (p : Program) (t place : ℕ) → 8 < t → None ≡ fetched p t place
+fetched_none p t place h = fetched_past p t place (let f = few p in let e = ap length (text_past p t (omega arith)) in omega arith)

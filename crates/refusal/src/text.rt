@@ -12,15 +12,16 @@ impl fmt::Display for Object {
     }
 }
 
-// A part of a refusal, or `-` where it is missing.
+// The blank and a part of a refusal, or `-` where it is missing. A missing part is one piece with its blank, which a sink
+// that takes or refuses whole pieces can tell.
 #[derive(Drop)]
 struct Part<T>(Option<T>);
 
 impl<T: fmt::Display> fmt::Display for Part<T> {
     fn fmt<W: fmt::Write>(&self, f: &mut fmt::Formatter<W>) -> fmt::Result {
         match &self.0 {
-            Some(part) => write!(f, "{part}"),
-            None => write!(f, "-"),
+            Some(part) => write!(f, " {part}"),
+            None => write!(f, " -"),
         }
     }
 }
@@ -31,6 +32,6 @@ impl fmt::Display for Refusal {
         let thread = Part(self.thread);
         let place = Part(self.place);
         let object = Part(self.object);
-        write!(f, "refused {} {thread} {place} {object}", self.number)
+        write!(f, "refused {}{thread}{place}{object}", self.number)
     }
 }

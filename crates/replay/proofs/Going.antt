@@ -14,7 +14,7 @@ use Rattle.following.proofs.Stays.{stays}
 use Rattle.replay.specs.Calls.{Replaying, stepped, Ran, led_by, offers, goes}
 use Rattle.replay.proofs.Reached.{offers_has}
 
-abbrev tell : ThreadSet → ℕ → Told
+abbrev pub tell : ThreadSet → ℕ → Told
 tell o i = record { offer = o; thread = i }
 
 module _ (p : Code) (t : History) where

@@ -1,4 +1,4 @@
-use Rattle.std.proofs.Common.{Bool, cond, sym, refl, ap, ◌∙◌}
+use Rattle.std.proofs.Common.{Bool, cond, sym, refl, ap, ◌∙◌, rules}
 use Rattle.following.specs.Following.{advance}
 use Rattle.following.specs.Followers.{program_of, seen}
 use Rattle.following.proofs.Advances.{due_of, moves}
@@ -9,7 +9,7 @@ pub spend-requires : goal.spend-requires
 unfolding seen
 spend-requires c =
     let f = c.args.self.now in
-    due_of f.program.now f.trace.now f.stage c.args.thread (held f.kept) (sym c.permitted.ensures ∙ c.if-not-permitted.false) c.next-access.result c.next-access.ensures
+    search (rules, due_of f.program.now f.trace.now f.stage c.args.thread (held f.kept) (sym c.permitted.ensures ∙ c.if-not-permitted.false) c.next-access.result c.next-access.ensures)
 
 pub invariant_of-self : goal.invariant_of-self
 unfolding seen

@@ -42,7 +42,7 @@ returns c =
     let f = c.args.self.now in
     let p = f.program.now in
     let a = c.in-Some.access in
-    let same : c.eq.result ≡ meets (a.event ∷ []) (lifted c.due-due.result) = c.eq.ensures ∙ compared _ a.event (λ d. search rules) c.due-due.result in
+    let same : c.eq.result ≡ meets (a.event ∷ []) (lifted c.due-due.result) = c.eq.ensures ∙ compared _ a.event (λ d. search rules) c.due-due.result _ (search rules) in
     event_may (code_of p) f.trace.now f.stage c.args.thread (sym c.if-not-below.false ∙ c.below.ensures) (sym c.if-not-able.false ∙ c.able.ensures.answer) (proper p) (held f.kept) (named a.object) a.event
     (accesses (code_of p) (view f.stage.machine) c.args.thread (named a.object) a.event c.in-Some.ensures) c.eq.result
     (same ∙ ap (meets (a.event ∷ [])) (c.due-due.ensures ∙ ap (λ (k : ℕ). first (drop (next_at f.stage.used k c.args.thread) (row f.trace.now k))) c.place_of.ensures))

@@ -8,5 +8,5 @@ pub returns : goal.returns
 returns c =
     let ts = threads c.args.set in
     let a : MatchOption c.first_above.result (c.or_else.result ≡ found_above 0 ts) (λ x. c.or_else.result ≡ Some x) = search (rules, tests) in
-    let e = c.unwrap_or.ensures ∙ next_found c.args.self.now.last ts c.first_above.result c.or_else.result c.first_above.ensures a in
+    let e = c.unwrap_or.ensures ∙ next_found c.args.self.now.last ts c.first_above.result c.or_else.result c.first_above.ensures.found a in
     search (rules, tests)
